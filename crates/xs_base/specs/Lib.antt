@@ -1,0 +1,6 @@
+pub mod Causes
+pub mod Desks
+pub mod Sinks
+pub mod Lines
+pub mod InMemory
+pub mod Reading

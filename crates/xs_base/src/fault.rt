@@ -1,0 +1,47 @@
+//! What is wrong in the input, and why a reader gives no value.
+ghost use Rattle.std.specs.Prelude.{◌≡◌};
+ghost use Rattle.xs_base.specs.declared.fault.Refuse.TheVariants as refuse;
+
+use crate::{Bytes, FileOf, Memory};
+use std::alloc::{AllocError, AllocFailed};
+
+/// A fault of the input: where it stands, the number of the refusal, and the word at fault. The line is 0 where the fault
+/// has no place in the file, and the word is empty where the refusal has none.
+#[derive(Debug, Drop)]
+pub struct Fault {
+    pub file: FileOf,
+    pub line: u32,
+    pub code: u16,
+    pub word: Bytes,
+}
+
+/// Why a reader of the input gives no value.
+#[derive(Debug, Drop)]
+pub enum Refuse {
+    Fault(Fault),
+    Memory,
+}
+
+impl From<Memory> for Refuse {
+    ghost from_gives = { λ _ e. e ≡ refuse.Memory };
+
+    fn from(_: Memory) -> Refuse {
+        Refuse::Memory
+    }
+}
+
+impl From<AllocError> for Refuse {
+    ghost from_gives = { λ _ e. e ≡ refuse.Memory };
+
+    fn from(_: AllocError) -> Refuse {
+        Refuse::Memory
+    }
+}
+
+impl<T: Drop> From<AllocFailed<T>> for Refuse {
+    ghost from_gives = { λ _ e. e ≡ refuse.Memory };
+
+    fn from(_: AllocFailed<T>) -> Refuse {
+        Refuse::Memory
+    }
+}

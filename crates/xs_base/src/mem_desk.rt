@@ -1,0 +1,120 @@
+//! A desk in memory, for tests. It tells what it holds, and fails at the calls that it is given.
+ghost use Rattle.std.specs.Option.{ForSome, option_copied};
+ghost use Rattle.std.specs.Prelude.{◌≡◌, ◌≢◌, ◌≤◌, ◌++◌, ◌∷◌, [], IfOk, List, OnErr, OnOk, Some, if◌then◌else◌, length, ℕ};
+ghost use Rattle.std.specs.Str.{bytes_eq};
+ghost use Rattle.xs_base.specs.Desks.{ReadCause, Reads};
+ghost use Rattle.xs_base.specs.InMemory.{after_read, held, is_listed, mem_read};
+
+use crate::{Bytes, Desk, DeskFault, Memory};
+use std::alloc::Global;
+use std::marker::Model;
+
+/// A file that a desk in memory holds.
+#[derive(Debug, Drop)]
+pub struct HeldFile {
+    pub name: Bytes,
+    pub bytes: Bytes,
+}
+
+/// A desk in memory.
+#[derive(Debug, Drop)]
+pub struct MemDesk {
+    alloc: Global,
+    /// The file that was added last comes first, and hides an older one of its name.
+    held: Vec<HeldFile>,
+    failing: Vec<u64>,
+    calls: u64,
+    failed: u64,
+}
+
+impl Model for MemDesk {
+    ghost use Rattle.xs_base.specs.InMemory.{MemFiles};
+
+    ghost Value = { MemFiles };
+
+    ghost view = { λ d. record { held_files = d.held.items; failing = d.failing.items; calls = d.calls; failed = d.failed } };
+}
+
+impl MemDesk {
+    /// A desk without files.
+    pub fn new(alloc: Global) -> MemDesk
+        ensures { result ≡ record { held_files = []; failing = []; calls = 0; failed = 0 } }
+    {
+        MemDesk {
+            alloc,
+            held: Vec::new(alloc),
+            failing: Vec::new(alloc),
+            calls: 0,
+            failed: 0,
+        }
+    }
+
+    /// Puts a file onto the desk, in the place of one of the same name.
+    pub fn add(&mut self, name: Bytes, bytes: Bytes) -> Result<(), Memory>
+        ensures ok { OnOk result ((other : List ℕ) →
+            held self.new.held_files other ≡ (if bytes_eq name other then Some bytes else held self.old.held_files other)) }
+        ensures err { OnErr result (self.new ≡ self.old) }
+    {
+        self.held.insert(0, HeldFile { name, bytes })?;
+        Ok(())
+    }
+
+    /// Makes the read of this number fail. Reads are counted from 1.
+    pub fn fail_at(&mut self, call: u64) -> Result<(), Memory>
+        ensures ok { OnOk result (self.new ≡ record self.old { failing = self.old.failing ++ call ∷ [] }) }
+        ensures err { OnErr result (self.new ≡ self.old) }
+    {
+        self.failing.push(call)?;
+        Ok(())
+    }
+}
+
+// The bytes of the file of a name.
+fn find<'a>(files: &'a [HeldFile], name: &Bytes) -> Option<&'a Bytes>
+    ensures { option_copied result ≡ held files.now name.now }
+{
+    for file in files {
+        if file.name == *name {
+            return Some(&file.bytes);
+        }
+    }
+    None
+}
+
+/// Whether the call of this number is listed.
+pub(crate) fn is_among(calls: &[u64], call: u64) -> bool
+    ensures { result ≡ is_listed calls.now call }
+{
+    calls.iter().any(|c| *c == call)
+}
+
+impl Desk for MemDesk {
+    ghost files = { λ d. Some (held d.held_files) };
+
+    ghost fault_count = { λ d. d.failed };
+
+    fn read(&mut self, name: &Bytes, limit: u32) -> Result<Bytes, DeskFault>
+        ensures bound { IfOk result (λ bytes. length bytes ≤ limit) }
+        ensures told { ForSome (Some (held self.old.held_files)) (λ files. Reads (files name.now) limit result) }
+        ensures same { Some (held self.new.held_files) ≡ Some (held self.old.held_files) }
+        ensures cause { ReadCause self.old.failed self.new.failed result }
+        // It fails at the listed calls alone.
+        ensures exact { result ≢ Err DeskFault.Memory → result ≡ mem_read self.old name.now limit }
+        ensures after { self.new ≡ after_read self.old }
+    {
+        self.calls = self.calls.saturating_add(1);
+        if is_among(&self.failing, self.calls) {
+            self.failed = self.failed.saturating_add(1);
+            return Err(DeskFault::Failed);
+        }
+        let bytes = find(&self.held, name).ok_or(DeskFault::Missing)?;
+        if bytes.len() > limit as usize {
+            return Err(DeskFault::Longer);
+        }
+        bytes.copy(self.alloc).map_err(|_| DeskFault::Memory)
+    }
+
+    fn faults(&self) -> u64 {
+        self.failed
+    }
+}
