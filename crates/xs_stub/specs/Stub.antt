@@ -1,0 +1,86 @@
+-- The glue text of a module: the C by which Perl calls its XSUBs. The layout is this project's own; the calls are those of perlxs
+-- and perlapi.
+use Rattle.std.specs.Fmt.{decimal}
+use Rattle.std.specs.List.{flat_map}
+use Rattle.std.specs.Prelude.{ℕ, ◌+◌, List, [], ◌∷◌, ◌++◌, length, codes, Option, None, Some, slice_get}
+use Rattle.xs_iface.specs.declared.xsub.Module.{Module}
+use Rattle.xs_iface.specs.declared.xsub.Param.{Param}
+use Rattle.xs_iface.specs.declared.xsub.Term.{Term}
+use Rattle.xs_iface.specs.declared.xsub.Term.TheVariants.{Literal, Parameter}
+use Rattle.xs_iface.specs.declared.xsub.Xsub.{Xsub}
+use Rattle.xs_iface.specs.Iface.{underscored}
+
+-- the names of parameters, each but the first behind a comma and a space
+abbrev pub more_names : List Param → List ℕ
+more_names [] = []
+more_names (p ∷ ps) = codes ", " ++ (p.name ++ more_names ps)
+
+abbrev pub joined_names : List Param → List ℕ
+joined_names [] = []
+joined_names (p ∷ ps) = p.name ++ more_names ps
+
+-- texts one behind the other
+abbrev pub together : List (List ℕ) → List ℕ
+together [] = []
+together (t ∷ ts) = t ++ together ts
+
+-- a variable for a parameter
+unfoldable pub declaration_text : Param → List ℕ
+declaration_text p = together (codes "        int " ∷ p.name ∷ codes ";\n" ∷ [])
+
+-- the variable gets the argument at a place
+unfoldable pub input_text : ℕ → Param → List ℕ
+input_text place p = together (codes "        " ∷ p.name ∷ codes " = (int)SvIV(ST(" ∷ decimal place ∷ codes "));\n" ∷ [])
+
+abbrev pub inputs_text : ℕ → List Param → List ℕ
+inputs_text place [] = []
+inputs_text place (p ∷ ps) = input_text place p ++ inputs_text (place + 1) ps
+
+abbrev pub name_or_nothing : Option Param → List ℕ
+name_or_nothing None = []
+name_or_nothing (Some p) = p.name
+
+abbrev pub term_text : List Param → Term → List ℕ
+term_text params (Parameter at) = name_or_nothing (slice_get params at)
+term_text params (Literal value) = decimal value
+
+abbrev pub more_terms : List Param → List Term → List ℕ
+more_terms params [] = []
+more_terms params (t ∷ ts) = codes " + " ++ (term_text params t ++ more_terms params ts)
+
+-- the terms of a sum, each but the first behind a plus
+abbrev pub sum_text : List Param → List Term → List ℕ
+sum_text params [] = []
+sum_text params (t ∷ ts) = term_text params t ++ more_terms params ts
+
+-- The head of a glue function, with the test of the number of arguments and its croak.
+unfoldable pub head_text : Xsub → List ℕ
+head_text x =
+    together (codes "\nXS(" ∷ x.glue ∷ codes ")\n{\n    dXSARGS;\n    if (items != " ∷ decimal (length x.params) ∷ codes ")\n        croak_xs_usage(cv, \"" ∷ joined_names x.params
+    ∷ codes "\");\n    {\n" ∷ [])
+
+-- The variables, the inputs in the order of the list, and the line of the author's code as it stands.
+unfoldable pub work_text : Xsub → List ℕ
+work_text x =
+    together (flat_map declaration_text x.params ∷ codes "        int RETVAL;\n        SV *RETVALSV;\n" ∷ inputs_text 0 x.params ∷ x.indent ∷ codes "RETVAL = "
+    ∷ sum_text x.params x.sum ∷ codes ";\n" ∷ [])
+
+-- RETVAL becomes a new temporary, which is the one item that is returned.
+unfoldable pub end_text : List ℕ
+end_text = codes "        RETVALSV = sv_newmortal();\n        sv_setiv(RETVALSV, (IV)RETVAL);\n        ST(0) = RETVALSV;\n        XSRETURN(1);\n    }\n}\n"
+
+-- the glue function of an XSUB
+unfoldable pub xsub_text : Xsub → List ℕ
+xsub_text x = together (head_text x ∷ work_text x ∷ end_text ∷ [])
+
+unfoldable pub registration_text : Xsub → List ℕ
+registration_text x = together (codes "    newXS_deffile(\"" ∷ x.full ∷ codes "\", " ∷ x.glue ∷ codes ");\n" ∷ [])
+
+-- The boot function registers each glue function under its full name.
+unfoldable pub boot_text : Module → List ℕ
+boot_text m =
+    together (codes "\nXS(boot_" ∷ underscored m.boot ∷ codes ")\n{\n    dXSARGS;\n" ∷ flat_map registration_text m.xsubs ∷ codes "    XSRETURN_YES;\n}\n" ∷ [])
+
+-- the whole text
+unfoldable pub glue_text : Module → List ℕ
+glue_text m = together (codes "/* xsubpp glue, data model LP64 */\n" ∷ flat_map xsub_text m.xsubs ∷ boot_text m ∷ [])
