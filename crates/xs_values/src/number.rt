@@ -27,6 +27,16 @@ impl Model for CInt {
 }
 
 impl CInt {
+    /// An IV as a number of kind I64.
+    pub fn from_iv(iv: i64) -> CInt
+        ensures { result ≡ record { kind = Kind.I64; value = iv } }
+    {
+        CInt {
+            kind: Kind::I64,
+            value: i128::from(iv),
+        }
+    }
+
     pub fn kind(&self) -> Kind
         ensures { result ≡ self.now.kind }
     {

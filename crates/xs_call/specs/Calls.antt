@@ -1,0 +1,46 @@
+-- The commands of a script that can be run so far: calls in list form with whole numbers that an IV holds.
+use Rattle.std.specs.Option.{option_map}
+use Rattle.std.specs.Prelude.{ℤ, ℕ, List, [], ◌∷◌, ◌++◌, Option, None, Some, option_and_then, Result, Ok, Err}
+use Rattle.xs_base.specs.Reading.{◌>>=◌}
+use Rattle.xs_base.specs.declared.fault.Fault.{Fault}
+use Rattle.xs_base.specs.declared.place.FileOf.TheVariants.{Script}
+use Rattle.xs_call.specs.declared.calls.CallCommand.{CallCommand}
+use Rattle.xs_iface.specs.declared.first_form.TheConstants.{NOT_BUILT}
+use Rattle.xs_script.specs.Expr.{Expr, Num, Said, My, MyCall, Ro, CallSub, Show, Drop, Isa, Sub}
+use Rattle.xs_script.specs.declared.command.Number.TheVariants.{Int, Uns}
+
+-- the number that an expression is, if it is one that an IV holds
+abbrev pub int_of : Expr → Option ℤ
+int_of (Num (Int n)) = Some n
+int_of _ = None
+
+abbrev pub ints_of : List Expr → Option (List ℤ)
+ints_of [] = Some []
+ints_of (e ∷ es) = option_and_then (λ n. option_map (λ ns. n ∷ ns) (ints_of es)) (int_of e)
+
+-- the fault of a command of a form that is not built yet
+abbrev pub not_built_at : ℕ → Fault
+not_built_at line = record { file = Script; line = line; code = NOT_BUILT; word = [] }
+
+abbrev pub call_with : ℕ → List ℕ → Option (List ℤ) → Result CallCommand Fault
+call_with line sub None = Err (not_built_at line)
+call_with line sub (Some numbers) = Ok (record { line = line; sub = sub; args = numbers })
+
+abbrev pub call_said : Said → Result CallCommand Fault
+call_said (My line name e) = Err (not_built_at line)
+call_said (MyCall line name sub args) = Err (not_built_at line)
+call_said (Ro line name) = Err (not_built_at line)
+call_said (CallSub line sub args) = call_with line sub (ints_of args)
+call_said (Show line name) = Err (not_built_at line)
+call_said (Drop line name) = Err (not_built_at line)
+call_said (Isa line class parent) = Err (not_built_at line)
+call_said (Sub line sub actions) = Err (not_built_at line)
+
+-- calls in front of others
+abbrev pub with_front : List CallCommand → Result (List CallCommand) Fault → Result (List CallCommand) Fault
+with_front front others = others >>= λ rest. Ok (front ++ rest)
+
+-- the calls of a script, or the fault of its first command that is none
+abbrev pub calls_said : List Said → Result (List CallCommand) Fault
+calls_said [] = Ok []
+calls_said (s ∷ ss) = call_said s >>= λ c. calls_said ss >>= λ cs. Ok (c ∷ cs)

@@ -1,0 +1,145 @@
+-- The declared meaning: what each command of a script does, by the interface alone. No glue text is read here, nothing is counted, and
+-- there are no temporaries.
+use Rattle.std.specs.Prelude.{ℤ, pos, ℕ, ◌+◌, ◌==◌, nat_le, Bool, true, false, not, List, [], ◌∷◌, ◌++◌, map, length, slice_index_or, slice_get, codes, Option, None, Some, Result, Ok, Err, if◌then◌else◌}
+use Rattle.std.specs.Str.{bytes_eq}
+use Rattle.xs_call.specs.declared.calls.CallCommand.{CallCommand}
+use Rattle.xs_call.specs.Transcript.{CallEnd, Returned, Croaked, Trapped, Spent, call_text, end_lines, live_line, own_trap_text}
+use Rattle.xs_iface.specs.declared.xsub.Module.{Module}
+use Rattle.xs_iface.specs.declared.xsub.Term.{Term}
+use Rattle.xs_iface.specs.declared.xsub.Term.TheVariants.{Literal, Parameter}
+use Rattle.xs_iface.specs.declared.xsub.Xsub.{Xsub}
+use Rattle.xs_script.specs.ValueText.{value_text_of}
+use Rattle.xs_stub.specs.Stub.{joined_names}
+use Rattle.xs_values.specs.declared.kind.Kind.TheVariants.{I32, I64}
+use Rattle.xs_values.specs.declared.operator.Op.TheVariants.{Add}
+use Rattle.xs_values.specs.declared.plain.Plain.{Plain}
+use Rattle.xs_values.specs.declared.plain.Plain.TheVariants.{Undef, Int, Text}
+use Rattle.xs_values.specs.declared.trap.Trap.{Trap}
+use Rattle.xs_values.specs.declared.trap.Trap.TheVariants.{Large}
+use Rattle.xs_values.specs.Numbers.{Number, calculated, wrapped, wrapped_value}
+use Rattle.xs_values.specs.Plains.{iv_of}
+
+-- The values of all scalars that were made, by their names. Nothing is ever taken out, and the next name is the length. The name 0 is
+-- given to none; 1 to 4 are undef, yes, no and the scalar of $@.
+abbrev pub Store : Type 0
+Store = List Plain
+
+abbrev pub new_store : Store
+new_store = Undef ∷ Undef ∷ Int (pos 1) ∷ Text [] ∷ Text [] ∷ []
+
+abbrev pub value_at : Store → ℕ → Plain
+value_at store name = slice_index_or store name Undef
+
+-- whether a run may make so many scalars more: 4,000,000 it may make in all
+abbrev pub may_make : ℕ → Store → Bool
+may_make n store = nat_le (length store + n) 4000005
+
+-- so many names from this one on
+abbrev pub names_from : ℕ → List ℤ → List ℕ
+names_from n [] = []
+names_from n (z ∷ zs) = n ∷ names_from (n + 1) zs
+
+-- ---- the call of an XSUB, step by step
+
+-- 1. The argument test: the croak names the parameters and the name under which the call was made.
+abbrev pub usage_croak : List ℕ → Xsub → List ℕ
+usage_croak called x = codes "Usage: " ++ called ++ 40 ∷ joined_names x.params ++ 41 ∷ []
+
+-- 4. Each parameter of type `int` gets the IV of its argument, converted.
+abbrev pub input_of : Plain → Number
+input_of p = wrapped I32 (iv_of p)
+
+abbrev pub inputs_of : Store → List ℕ → List Number
+inputs_of store args = map (λ name. input_of (value_at store name)) args
+
+-- 6. The author's code gives RETVAL the sum of its terms, from left to right. A sum that an `int` does not hold traps Overflow.
+abbrev pub zero_int : Number
+zero_int = record { kind = I32; value = pos 0 }
+
+abbrev pub term_value : List Number → Term → Number
+term_value inputs (Parameter at) = slice_index_or inputs at zero_int
+term_value inputs (Literal value) = record { kind = I32; value = pos value }
+
+abbrev pub sum_on : List Number → Result Number Trap → List Term → Result Number Trap
+sum_on inputs (Err trap) terms = Err trap
+sum_on inputs (Ok so_far) [] = Ok so_far
+sum_on inputs (Ok so_far) (t ∷ ts) = sum_on inputs (calculated Add so_far (term_value inputs t)) ts
+
+abbrev pub sum_of : List Number → List Term → Result Number Trap
+sum_of inputs [] = Ok zero_int
+sum_of inputs (t ∷ ts) = sum_on inputs (Ok (term_value inputs t)) ts
+
+-- how a call ends, and the store behind it
+pub record Ended : Type 0 where
+  pub how : CallEnd
+  pub store : Store
+
+-- 8. and 10. RETVAL becomes a new scalar that holds the number as an IV, and this is the one item.
+abbrev pub result_of : Store → Result Number Trap → Ended
+result_of store (Err trap) = record { how = Trapped trap; store = store }
+result_of store (Ok number) =
+    if may_make 1 store then record { how = Returned (length store ∷ []); store = store ++ Int (wrapped_value I64 number.value) ∷ [] }
+    else record { how = Trapped Large; store = store }
+
+abbrev pub xsub_ended : List ℕ → Xsub → Store → List ℕ → Ended
+xsub_ended called x store args =
+    if length args == length x.params then result_of store (sum_of (inputs_of store args) x.sum) else record { how = Croaked (usage_croak called x); store = store }
+
+-- the XSUB of a name
+abbrev pub xsub_named : List ℕ → List Xsub → Option Xsub
+xsub_named name [] = None
+xsub_named name (x ∷ xs) = if bytes_eq x.full name then Some x else xsub_named name xs
+
+-- a name that no XSUB has croaks
+abbrev pub undefined_croak : List ℕ → List ℕ
+undefined_croak name = codes "Undefined subroutine &" ++ name ++ codes " called"
+
+abbrev pub call_ended : List ℕ → Option Xsub → Store → List ℕ → Ended
+call_ended called None store args = record { how = Croaked (undefined_croak called); store = store }
+call_ended called (Some x) store args = xsub_ended called x store args
+
+-- a call with the scalars of its arguments: the argument list holds 1,000,000 items at most
+abbrev pub called : Module → List ℕ → Store → List ℕ → Ended
+called m name store args = if nat_le (length args) 1000000 then call_ended name (xsub_named name m.xsubs) store args else record { how = Trapped Large; store = store }
+
+-- ---- the transcript
+
+-- what a command tells, and the store behind it where the script goes on
+pub record Told : Type 0 where
+  pub text : List ℕ
+  pub next : Option Store
+
+-- Nothing here refers to a scalar, and a script has no variables so far: no scalar lives between the commands.
+abbrev pub nothing_lives : List ℕ
+nothing_lives = live_line 0 0 0
+
+abbrev pub show_in : Store → ℕ → List ℕ
+show_in store name = value_text_of (value_at store name)
+
+abbrev pub told_end : CallCommand → List ℕ → CallEnd → Store → Told
+told_end c args (Returned items) store = record { text = call_text c ++ (end_lines (show_in store) args (Returned items) ++ nothing_lives); next = Some store }
+told_end c args (Croaked text) store = record { text = call_text c ++ (end_lines (show_in store) args (Croaked text) ++ nothing_lives); next = Some store }
+told_end c args (Trapped trap) store = record { text = call_text c ++ end_lines (show_in store) args (Trapped trap); next = None }
+told_end c args Spent store = record { text = call_text c ++ end_lines (show_in store) args Spent; next = None }
+
+abbrev pub told_ended : CallCommand → List ℕ → Ended → Told
+told_ended c args e = told_end c args e.how e.store
+
+-- A call: its arguments are made, each a new scalar, and then the XSUB is called.
+abbrev pub told_call : Module → Store → CallCommand → Told
+told_call m store c =
+    if may_make (length c.args) store
+    then told_ended c (names_from (length store) c.args) (called m c.sub (store ++ map Int c.args) (names_from (length store) c.args))
+    else record { text = own_trap_text Large; next = None }
+
+abbrev pub go_on : Option Store → (Store → List ℕ) → List ℕ
+go_on None more = []
+go_on (Some store) more = more store
+
+abbrev pub calls_told : Module → Store → List CallCommand → List ℕ
+calls_told m store [] = []
+calls_told m store (c ∷ cs) = (told_call m store c).text ++ go_on (told_call m store c).next (λ next. calls_told m next cs)
+
+-- The boot registers the XSUBs and returns. Then each command is told in order.
+unfoldable pub declared_transcript : Module → List CallCommand → List ℕ
+declared_transcript m cs = codes "boot returned\n" ++ (nothing_lives ++ calls_told m new_store cs)

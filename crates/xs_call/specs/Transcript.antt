@@ -1,0 +1,91 @@
+-- The lines of a transcript: what a script's caller is told of each command.
+use Rattle.std.specs.Fmt.{decimal}
+use Rattle.std.specs.Prelude.{ℕ, ◌+◌, ◌==◌, List, [], ◌∷◌, ◌++◌, length, position, codes, Option, None, Some}
+use Rattle.xs_call.specs.declared.calls.CallCommand.{CallCommand}
+use Rattle.xs_script.specs.ValueText.{quoted_text}
+use Rattle.xs_stub.specs.Stub.{together}
+use Rattle.xs_values.specs.declared.trap.Trap.{Trap}
+use Rattle.xs_values.specs.declared.trap.Trap.TheVariants.{Overflow, Zero, Shift, Unset, Null, Bounds, Kind, Freed, Gone, Stale, Scope, Large}
+
+-- how a call ends: it returns scalars by their names, croaks with a text, traps, or has no turn left
+pub data CallEnd : Type 0 where
+  Returned : List ℕ → CallEnd
+  Croaked : List ℕ → CallEnd
+  Trapped : Trap → CallEnd
+  Spent : CallEnd
+
+abbrev pub trap_name : Trap → List ℕ
+trap_name Overflow = codes "Overflow"
+trap_name Zero = codes "Zero"
+trap_name Shift = codes "Shift"
+trap_name Unset = codes "Unset"
+trap_name Null = codes "Null"
+trap_name Bounds = codes "Bounds"
+trap_name Kind = codes "Kind"
+trap_name Freed = codes "Freed"
+trap_name (Gone name next) = codes "Gone"
+trap_name Stale = codes "Stale"
+trap_name Scope = codes "Scope"
+trap_name Large = codes "Large"
+
+-- `call LINE NAME`
+unfoldable pub call_text : CallCommand → List ℕ
+call_text c = together (codes "call " ∷ decimal c.line ∷ codes " " ∷ c.sub ∷ [])
+
+-- what stands behind `call LINE NAME` and behind `boot`
+unfoldable pub returned_text : ℕ → List ℕ
+returned_text n = together (codes " returned " ∷ decimal n ∷ codes "\n" ∷ [])
+
+unfoldable pub croaked_text : List ℕ → List ℕ
+croaked_text text = together (codes " croaked " ∷ quoted_text text ∷ codes "\n" ∷ [])
+
+unfoldable pub trapped_text : Trap → List ℕ
+trapped_text trap = together (codes " trapped " ∷ trap_name trap ∷ codes "\n" ∷ [])
+
+unfoldable pub spent_text : List ℕ
+spent_text = codes " spent\n"
+
+-- a trap in the work between the calls
+unfoldable pub own_trap_text : Trap → List ℕ
+own_trap_text trap = together (codes "trapped " ∷ trap_name trap ∷ codes "\n" ∷ [])
+
+abbrev pub alias_at : Option ℕ → List ℕ
+alias_at None = []
+alias_at (Some k) = codes " is arg " ++ decimal k
+
+-- whether a scalar is that of an argument: the least such argument is told
+unfoldable pub alias_text : List ℕ → ℕ → List ℕ
+alias_text args name = alias_at (position (λ a. a == name) args)
+
+unfoldable pub item_line : (ℕ → List ℕ) → List ℕ → ℕ → ℕ → List ℕ
+item_line show args place name = together (codes "  item " ∷ decimal place ∷ codes " = " ∷ show name ∷ alias_text args name ∷ codes "\n" ∷ [])
+
+-- a line for each item, counted from a place
+abbrev pub item_lines : (ℕ → List ℕ) → List ℕ → ℕ → List ℕ → List ℕ
+item_lines show args place [] = []
+item_lines show args place (n ∷ ns) = item_line show args place n ++ item_lines show args (place + 1) ns
+
+unfoldable pub arg_line : (ℕ → List ℕ) → ℕ → ℕ → List ℕ
+arg_line show place name = together (codes "  arg " ∷ decimal place ∷ codes " = " ∷ show name ∷ codes "\n" ∷ [])
+
+-- a line for each argument, counted from a place
+abbrev pub arg_lines : (ℕ → List ℕ) → ℕ → List ℕ → List ℕ
+arg_lines show place [] = []
+arg_lines show place (n ∷ ns) = arg_line show place n ++ arg_lines show (place + 1) ns
+
+unfoldable pub live_line : ℕ → ℕ → ℕ → List ℕ
+live_line live marks scopes = together (codes "  live " ∷ decimal live ∷ codes " marks " ∷ decimal marks ∷ codes " scopes " ∷ decimal scopes ∷ codes "\n" ∷ [])
+
+-- the lines of an outcome: after a trap and a spent budget nothing follows
+abbrev pub end_lines : (ℕ → List ℕ) → List ℕ → CallEnd → List ℕ
+end_lines show args (Returned items) = returned_text (length items) ++ (item_lines show args 0 items ++ arg_lines show 0 args)
+end_lines show args (Croaked text) = croaked_text text ++ arg_lines show 0 args
+end_lines show args (Trapped trap) = trapped_text trap
+end_lines show args Spent = spent_text
+
+-- whether the script goes on behind a call
+abbrev pub goes_on : CallEnd → Option (Unit {0})
+goes_on (Returned items) = Some tt
+goes_on (Croaked text) = Some tt
+goes_on (Trapped trap) = None
+goes_on Spent = None

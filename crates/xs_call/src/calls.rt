@@ -1,0 +1,113 @@
+//! The commands that can be run so far: calls in list form with whole numbers that an IV holds.
+ghost use Rattle.std.specs.Prelude.{◌≡◌, IfOk, map};
+ghost use Rattle.xs_base.specs.Reading.{Gives};
+ghost use Rattle.xs_call.specs.Calls.{call_said, call_with, calls_said, int_of, ints_of, not_built_at};
+ghost use Rattle.xs_script.specs.Expr.{Num};
+ghost use Rattle.xs_script.specs.View.{plain, said};
+
+use std::alloc::Global;
+use xs_base::{Bytes, Fault, FileOf, Items, Memory, Refuse};
+use xs_iface::NOT_BUILT;
+use xs_script::{Command, E, Number};
+
+/// A call of an XSUB in list form.
+#[derive(Debug, Drop)]
+pub struct CallCommand {
+    /// The line of the command.
+    pub line: u32,
+    /// The name that is called.
+    pub sub: Bytes,
+    pub args: Items<i64>,
+}
+
+// A number that an IV holds.
+fn signed(number: Number) -> Option<i64>
+    ensures { result ≡ int_of (Num number) }
+{
+    match number {
+        Number::Int(n) => Some(n),
+        Number::Uns(_) => None,
+    }
+}
+
+// The number that an expression is, if it is one that an IV holds.
+#[tactic(auto, using(xs_script::proofs::Views::views))]
+fn int_value(e: &E) -> Option<i64>
+    ensures { result ≡ int_of (plain e.now) }
+{
+    match e {
+        E::Number(number) => signed(*number),
+        E::Undef => None,
+        E::Text(_) => None,
+        E::Variable(_) => None,
+        E::Reference(_) => None,
+        E::List(_) => None,
+        E::Hash(_) => None,
+        E::Argument(_) => None,
+    }
+}
+
+fn int_values(alloc: Global, es: &[E]) -> Result<Option<Items<i64>>, Memory>
+    ensures { IfOk result (λ numbers. numbers ≡ ints_of (map plain es.now)) }
+{
+    let mut numbers = Items::new(alloc);
+    for e in es {
+        let Some(n) = int_value(e) else {
+            return Ok(None);
+        };
+        numbers.push(n)?;
+    }
+    Ok(Some(numbers))
+}
+
+// The refusal of a command of a form that is not built yet.
+fn not_built(alloc: Global, line: u32) -> Refuse
+    ensures { result ≡ Refuse.Fault (not_built_at line) }
+{
+    Refuse::Fault(Fault {
+        file: FileOf::Script,
+        line,
+        code: NOT_BUILT,
+        word: Bytes::new(alloc),
+    })
+}
+
+fn call_with(alloc: Global, line: u32, sub: &Bytes, args: &[E]) -> Result<CallCommand, Refuse>
+    ensures { Gives result (call_with line sub.now (ints_of (map plain args.now))) }
+{
+    let Some(args) = int_values(alloc, args)? else {
+        return Err(not_built(alloc, line));
+    };
+    Ok(CallCommand {
+        line,
+        sub: sub.copy(alloc)?,
+        args,
+    })
+}
+
+fn plain_call(alloc: Global, command: &Command) -> Result<CallCommand, Refuse>
+    ensures { Gives result (call_said (said command.now)) }
+{
+    match command {
+        Command::Call(line, sub, args) => Ok(call_with(alloc, *line, sub, args.as_slice())?),
+        Command::My(line, _, _) => Err(not_built(alloc, *line)),
+        Command::MyCall(line, _, _, _) => Err(not_built(alloc, *line)),
+        Command::Ro(line, _) => Err(not_built(alloc, *line)),
+        Command::Show(line, _) => Err(not_built(alloc, *line)),
+        Command::Drop(line, _) => Err(not_built(alloc, *line)),
+        Command::Isa(line, _, _) => Err(not_built(alloc, *line)),
+        Command::Sub(line, _, _) => Err(not_built(alloc, *line)),
+    }
+}
+
+/// The calls of a script, or the refusal of its first command of another form.
+pub fn plain_calls(alloc: Global, commands: &[Command]) -> Result<Items<CallCommand>, Refuse>
+    ensures { Gives result (calls_said (map said commands.now)) }
+{
+    let mut calls = Items::new(alloc);
+    for command in commands {
+        let call = plain_call(alloc, command)?;
+        calls.push(call)?;
+    }
+    Ok(calls)
+}

@@ -1,0 +1,111 @@
+-- The value of digits, and the sorts of words.
+use Rattle.std.proofs.Common.{◌≡◌, ℕ, zero, suc, ◌+◌, ◌*◌, ◌-◌, ◌/◌, ◌%◌, ◌^◌, ◌<◌, ◌≤◌, Bool, true, false, not, ◌&&◌, ◌||◌, List, [], ◌∷◌, ◌++◌, length, get_or, drop, fold, refl, sym, ap, subst, ◌∙◌, arith}
+use Rattle.std.specs.Prelude.{Option, Some, None, nat_lt, if◌then◌else◌}
+use Rattle.std.specs.Fmt.{decimal}
+use Rattle.std.specs.List.{list_all}
+use Rattle.std.proofs.Math.Seq.{drop-cons}
+use Rattle.std.proofs.lemmas.Bool.Decides.{nat_tests}
+use Rattle.std.proofs.lemmas.Fmt.{decimal_by_steps, decimal_digit, first_decimal}
+use Rattle.std.proofs.lemmas.List.Sums.{fold-append}
+use Rattle.xs_csyn.specs.declared.token.Sort.{Sort}
+use Rattle.xs_csyn.specs.declared.token.Sort.TheVariants as sort
+use Rattle.xs_csyn.specs.Lexemes.{is_digit, is_word_byte}
+use Rattle.xs_csyn.specs.Pieces.{IsName}
+use Rattle.xs_csyn.specs.Words.{begins, value_of, has_leading_zero, is_decimal, sort_value, sort_word, is_key_word}
+
+abbrev pub digit_step : ℕ → ℕ → ℕ
+digit_step n b = 10 * n + (b - 48)
+
+fold_grows : (n : ℕ) (ds : List ℕ) → n ≤ fold digit_step n ds
+fold_grows n [] = omega arith
+fold_grows n (d ∷ ds) = omega (arith, fold_grows (10 * n + (d - 48)) ds)
+
+pub too_wide : (n i m : ℕ) (ds : List ℕ) → i < length ds → m ≤ 10 * n + (get_or ds i 0 - 48) → m ≤ fold digit_step n (drop i ds)
+too_wide n i m ds h wide =
+    let e : fold digit_step n (drop i ds) ≡ fold digit_step (10 * n + (get_or ds i 0 - 48)) (drop (suc i) ds) = ap (fold digit_step n) (drop-cons ds i 0 h) in
+    omega (arith, e, fold_grows (10 * n + (get_or ds i 0 - 48)) (drop (suc i) ds))
+
+-- ---- what a number is written as
+
+record AreDigits (n : ℕ) (ds : List ℕ) : Type 0 where
+  all : list_all is_digit ds ≡ true
+  value : value_of ds ≡ n
+  some : begins is_digit ds ≡ true
+
+digit_is : (n : ℕ) → n < 10 → is_digit (48 + n) ≡ true
+digit_is n h = grind (arith, nat_tests)
+
+list_all-append : (p : ℕ → Bool) (xs ys : List ℕ) → list_all p xs ≡ true → list_all p ys ≡ true → list_all p (xs ++ ys) ≡ true
+list_all-append p [] ys hx hy = hy
+list_all-append p (x ∷ xs) ys hx hy = by (p x) hx (list_all-append p xs ys)
+  where
+    by : (b : Bool) → (b && list_all p xs) ≡ true → (list_all p xs ≡ true → list_all p ys ≡ true → list_all p (xs ++ ys) ≡ true) → (b && list_all p (xs ++ ys)) ≡ true
+    by true h ih = ih h hy
+    by false h ih = absurd cc
+
+begins-append : (p : ℕ → Bool) (xs ys : List ℕ) → begins p xs ≡ true → begins p (xs ++ ys) ≡ true
+begins-append p [] ys h = absurd cc
+begins-append p (x ∷ xs) ys h = h
+
+decimal_digits : (n : ℕ) → n < 2 ^ 64 → AreDigits n (decimal n)
+decimal_digits = decimal_by_steps AreDigits
+    (λ n h. record { all = ap (λ b. b && true) (digit_is n h); value = omega arith; some = digit_is n h; })
+    (λ n ds h d. record {
+      all = list_all-append is_digit ds ((48 + n % 10) ∷ []) d.all (ap (λ b. b && true) (digit_is (n % 10) (omega arith)));
+      value = fold-append (λ m b. 10 * m + (b - 48)) 0 ds ((48 + n % 10) ∷ []) ∙ omega (arith, d.value);
+      some = begins-append is_digit ds ((48 + n % 10) ∷ []) d.some;
+    })
+
+no_zero : (ds : List ℕ) → 48 < get_or ds 0 0 → has_leading_zero ds ≡ false
+no_zero [] h = refl
+no_zero (a ∷ []) h = refl
+no_zero (a ∷ b ∷ bs) h = grind (arith, nat_tests)
+
+decimal_leads : (n : ℕ) → n < 2 ^ 64 → has_leading_zero (decimal n) ≡ false
+decimal_leads zero h = ap has_leading_zero (decimal_digit 0 (omega arith))
+decimal_leads (suc n) h = no_zero (decimal (suc n)) (first_decimal (suc n) (omega arith) h)
+
+below_limit : (n : ℕ) → n < 2 ^ 64 → nat_lt n (2 ^ 64) ≡ true
+below_limit n h = grind (arith, nat_tests)
+
+-- What a number below 2 ^ 64 is written as is one word, with that value.
+pub sort_word-decimal : (n : ℕ) → n < 2 ^ 64 → sort_word (decimal n) ≡ Some (sort.Numeral n)
+unfolding sort_word
+sort_word-decimal n h =
+    let d = decimal_digits n h in
+    let whole : is_decimal (decimal n) ≡ true = ap (λ b. b && not (has_leading_zero (decimal n))) d.all ∙ ap not (decimal_leads n h) in
+    ap (λ b. if b then (if is_decimal (decimal n) then sort_value (value_of (decimal n)) else Some sort.OtherNumeral) else if is_key_word (decimal n) then Some sort.Key else Some sort.Name) d.some
+    ∙ ap (λ b. if b then sort_value (value_of (decimal n)) else Some sort.OtherNumeral) whole
+    ∙ ap sort_value d.value
+    ∙ ap (λ b. if b then Some (sort.Numeral n) else None) (below_limit n h)
+
+-- A word that begins with no digit and has no meaning of its own is a name.
+pub sort_word-name : (name : List ℕ) → begins is_digit name ≡ false → is_key_word name ≡ false → sort_word name ≡ Some sort.Name
+unfolding sort_word
+sort_word-name name d k =
+    ap (λ b. if b then (if is_decimal name then sort_value (value_of name) else Some sort.OtherNumeral) else if is_key_word name then Some sort.Key else Some sort.Name) d
+    ∙ ap (λ b. if b then Some sort.Key else Some sort.Name) k
+
+in_the_middle : (a b c d : Bool) → c ≡ true → (a || (b || (c || d))) ≡ true
+in_the_middle true b c d h = refl
+in_the_middle false true c d h = refl
+in_the_middle false false true d h = refl
+in_the_middle false false false d h = absurd cc
+
+digit_in_word : (b : ℕ) → is_digit b ≡ true → is_word_byte b ≡ true
+digit_in_word b h = in_the_middle _ _ (is_digit b) _ h
+
+digits_in_word : (ds : List ℕ) → list_all is_digit ds ≡ true → list_all is_word_byte ds ≡ true
+digits_in_word [] h = refl
+digits_in_word (d ∷ ds) h = by (is_digit d) refl h (digits_in_word ds)
+  where
+    by : (b : Bool) → is_digit d ≡ b → (b && list_all is_digit ds) ≡ true → (list_all is_digit ds ≡ true → list_all is_word_byte ds ≡ true) → (is_word_byte d && list_all is_word_byte ds) ≡ true
+    by true e h ih = ap (λ c. c && list_all is_word_byte ds) (digit_in_word d e) ∙ ih h
+    by false e h ih = absurd cc
+
+as_name : (ds : List ℕ) → list_all is_digit ds ≡ true → begins is_digit ds ≡ true → IsName ds
+as_name [] h b = absurd cc
+as_name (d ∷ ds) h b = record { head = d; tail = ds; is = refl; bytes = digits_in_word (d ∷ ds) h; }
+
+pub IsName-decimal : (n : ℕ) → n < 2 ^ 64 → IsName (decimal n)
+IsName-decimal n h = let d = decimal_digits n h in as_name (decimal n) d.all d.some

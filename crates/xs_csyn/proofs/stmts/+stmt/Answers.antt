@@ -1,0 +1,46 @@
+use Rattle.std.proofs.Common.{rules, arith, sym, ◌∙◌, ◌≡◌, true, false, suc, ◌-◌, ◌+◌}
+use Rattle.std.specs.Prelude.{codes}
+use Rattle.std.proofs.lemmas.Grind.{common_steps}
+use Rattle.xs_csyn.specs.Input.{sees, sees_key}
+use Rattle.xs_csyn.specs.Stmts.{stmt, parts_from}
+use Rattle.xs_csyn.specs.View.{plain_stmts}
+use Rattle.xs_csyn.proofs.Turns.{one_more, deeper}
+use Rattle.xs_csyn.proofs.stmts.+stmt.Goals as goal
+
+pub parts-returns-then-eat : goal.parts-returns-then-eat
+unfolding parts_from
+parts-returns-then-eat t c =
+    let e = one_more (λ n. parts_from (stmt c.args.below) n (plain_stmts c.loop-turn.all) c.loop-turn.cursor) _ c.loop-turn._turn c.loop-turn-test.true c.loop-turn.invariant in
+    first_of (search rules, grind (arith, common_steps))
+
+pub parts-returns-in_err-one : goal.parts-returns-in_err-one
+unfolding parts_from
+parts-returns-in_err-one t c =
+    let e = one_more (λ n. parts_from (stmt c.args.below) n (plain_stmts c.loop-turn.all) c.loop-turn.cursor) _ c.loop-turn._turn c.loop-turn-test.true c.loop-turn.invariant in
+    first_of (search rules, grind (arith, common_steps))
+
+pub parts-loop-turn-preserved : goal.parts-loop-turn-preserved
+unfolding parts_from
+parts-loop-turn-preserved t c =
+    let e = one_more (λ n. parts_from (stmt c.args.below) n (plain_stmts c.loop-turn.all) c.loop-turn.cursor) _ c.loop-turn._turn c.loop-turn-test.true c.loop-turn.invariant in
+    first_of (search rules, grind (arith, common_steps))
+
+pub stmt-returns-then-is_block-2 : goal.stmt-returns-then-is_block-2
+unfolding stmt
+stmt-returns-then-is_block-2 t c =
+    let s : sees (codes "{") c.args.cursor.now ≡ true = sym c.sees-is_block.ensures ∙ c.if-is_block-2.true in
+    rw (deeper (λ n. stmt n c.args.cursor.now) c.args.room (omega arith), s) c.block.ensures
+
+pub stmt-returns-then-is_condition-2 : goal.stmt-returns-then-is_condition-2
+unfolding stmt
+stmt-returns-then-is_condition-2 t c =
+    let s : sees (codes "{") c.args.cursor.now ≡ false = sym c.sees-is_block.ensures ∙ c.if-is_block-2.false in
+    let k : sees_key (codes "if") c.args.cursor.now ≡ true = sym c.sees_key-is_condition.ensures ∙ c.if-is_condition-2.true in
+    rw (deeper (λ n. stmt n c.args.cursor.now) c.args.room (omega arith), s, k) c.condition.ensures
+
+pub stmt-returns-else-is_condition-2 : goal.stmt-returns-else-is_condition-2
+unfolding stmt
+stmt-returns-else-is_condition-2 t c =
+    let s : sees (codes "{") c.args.cursor.now ≡ false = sym c.sees-is_block.ensures ∙ c.if-is_block-2.false in
+    let k : sees_key (codes "if") c.args.cursor.now ≡ false = sym c.sees_key-is_condition.ensures ∙ c.if-is_condition-2.false in
+    rw (deeper (λ n. stmt n c.args.cursor.now) c.args.room (omega arith), s, k) c.simple-else-is_condition-2.ensures

@@ -1,0 +1,178 @@
+-- Expressions. Each rule takes, as `inner`, the expressions that stand one level down.
+use Rattle.std.specs.Prelude.{ℕ, zero, suc, ◌+◌, Bool, if◌then◌else◌, nat_lt, max, List, [], ◌∷◌, ◌++◌, length, Option, Some, None, codes}
+use Rattle.std.specs.Str.{bytes_eq}
+use Rattle.xs_csyn.specs.declared.node.Level.{Level}
+use Rattle.xs_csyn.specs.declared.node.Level.TheVariants as level
+use Rattle.xs_csyn.specs.declared.token.Sort.{Sort}
+use Rattle.xs_csyn.specs.declared.token.Sort.TheVariants as sort
+use Rattle.xs_csyn.specs.declared.token.Token.{Token}
+use Rattle.xs_csyn.specs.declared.tree.BinaryOp.{BinaryOp}
+use Rattle.xs_csyn.specs.declared.tree.BinaryOp.TheVariants as op
+use Rattle.xs_csyn.specs.declared.tree.CType.{CType}
+use Rattle.xs_csyn.specs.Tree.{ExprTree, Var, Num, Str, Call, Set, Two, Cast, ExprTrees, NoExprs, MoreExprs, PlaceTree, VarPlace, StPlace, exprs_of}
+use Rattle.xs_csyn.specs.Input.{Input, Reader, ◌>>=◌, ◌>>◌, ◌<$>◌, pure, refuse, too_deep, peek, here, take_token, eat, expect, sees, sees_name, left, next, is_sign, a_type_word}
+
+-- a tree, and how many nodes its longest way down has
+pub record Found : Type 0 where
+  pub tree : ExprTree
+  pub height : ℕ
+
+-- trees in order, and the height of the tallest
+pub record FoundAll : Type 0 where
+  pub trees : List ExprTree
+  pub height : ℕ
+
+abbrev pub leaf : ExprTree → Found
+leaf tree = record { tree = tree; height = 1 }
+
+abbrev pub above : (ExprTree → ExprTree) → Found → Found
+above f n = record { tree = f n.tree; height = n.height + 1 }
+
+abbrev pub joined : ℕ → BinaryOp → Found → Found → Found
+joined line op a b = record { tree = Two line op a.tree b.tree; height = max a.height b.height + 1 }
+
+-- a value for a place that has this height
+abbrev pub assigned : ℕ → PlaceTree → ℕ → Found → Found
+assigned line place height n = record { tree = Set line place n.tree; height = max height n.height + 1 }
+
+abbrev pub with_more : FoundAll → Found → FoundAll
+with_more all n = record { trees = all.trees ++ n.tree ∷ []; height = max all.height n.height }
+
+abbrev pub no_nodes : FoundAll
+no_nodes = record { trees = []; height = 0 }
+
+abbrev pub called : ℕ → List ℕ → FoundAll → Found
+called line name all = record { tree = Call line name (exprs_of all.trees); height = all.height + 1 }
+
+-- ST of arguments as a place, if there is one argument
+abbrev pub list_place : ℕ → ExprTrees → Option PlaceTree
+list_place line (MoreExprs at NoExprs) = Some (StPlace line at)
+list_place line _ = None
+
+-- the place that an expression is, if it is one: a name, or ST of one expression
+abbrev pub place_of : ExprTree → Option PlaceTree
+place_of (Var line name) = Some (VarPlace line name)
+place_of (Call line name args) = if bytes_eq name (codes "ST") then list_place line args else None
+place_of _ = None
+
+-- the operator that comes next, if it stands before operands of this level
+unfoldable pub operator : Level → Input → Option BinaryOp
+operator level.Whole i = None
+operator level.Sum i = if sees (codes "!=") i then Some op.NotEqual else None
+operator level.Unary i = if sees (codes "+") i then Some op.Add else None
+
+abbrev pub on : {A B : Type 0} → Option A → Reader B → (A → Reader B) → Reader B
+on None none some = none
+on (Some a) none some = some a
+
+-- ---- types
+
+-- how many `*` stand in front
+abbrev pub count_stars : List Token → ℕ
+count_stars [] = 0
+count_stars (t ∷ ts) = if is_sign (codes "*") t then count_stars ts + 1 else 0
+
+abbrev pub behind_stars : List Token → List Token
+behind_stars [] = []
+behind_stars (t ∷ ts) = if is_sign (codes "*") t then behind_stars ts else t ∷ ts
+
+unfoldable pub stars : Reader ℕ
+stars = λ i. let behind : Input = record i { rest = behind_stars i.rest } in pure (count_stars i.rest) behind
+
+unfoldable pub a_type : Reader CType
+a_type = do
+  name ← a_type_word
+  n ← stars
+  pure (record { name = name; stars = n })
+
+-- ---- expressions
+
+module _ (inner : Level → Reader Found) where
+  -- behind the opening parenthesis; each turn takes a token
+  unfoldable pub list_from : ℕ → FoundAll → Reader FoundAll
+  list_from zero all = refuse
+  list_from (suc n) all = do
+    one ← inner level.Whole
+    more ← eat (codes ",")
+    if more then list_from n (with_more all one) else (expect (codes ")") >> pure (with_more all one))
+
+  unfoldable pub list : Reader FoundAll
+  list = λ i. list_from (left i) no_nodes i
+
+  unfoldable pub arguments : Reader FoundAll
+  arguments = do
+    is_empty ← eat (codes ")")
+    if is_empty then pure no_nodes else list
+
+  unfoldable pub named : ℕ → Reader Found
+  named line = do
+    name ← take_token
+    is_call ← eat (codes "(")
+    if is_call then called line name <$> arguments else pure (leaf (Var line name))
+
+  abbrev pub term : ℕ → Option Sort → Reader Found
+  term line (Some (sort.Numeral value)) = take_token >> pure (leaf (Num line value))
+  term line (Some sort.Quoted) = do
+    text ← take_token
+    pure (leaf (Str line text))
+  term line _ = λ i. if sees_name i then named line i else refuse i
+
+  -- behind the opening parenthesis
+  unfoldable pub cast : ℕ → Reader Found
+  cast line = do
+    to ← a_type
+    expect (codes ")")
+    above (Cast line to) <$> inner level.Unary
+
+  unfoldable pub unary : Reader Found
+  unary = do
+    line ← here
+    is_cast ← eat (codes "(")
+    if is_cast then cast line else (do
+      found ← peek
+      term line found)
+
+module _ (inner : Level → Reader Found) (below : ℕ) where
+  -- Operators that follow `left`, at most `n`. Each puts `left` one level down, so there can be no more than `below`.
+  unfoldable pub climb : Level → ℕ → ℕ → Found → Reader Found
+  climb operands line zero left = λ i. on (operator operands i) (pure left) (λ op. too_deep) i
+  climb operands line (suc n) left = λ i. on (operator operands i) (pure left) (λ op.
+      if nat_lt below left.height then too_deep else (do
+        take_token
+        right ← inner operands
+        climb operands line n (joined line op left right))) i
+
+  unfoldable pub sum : Reader Found
+  sum = do
+    line ← here
+    left ← unary inner
+    climb level.Unary line below left
+
+  -- the mark of an assignment comes next
+  unfoldable pub assignment : ℕ → Found → Reader Found
+  assignment line left = on (place_of left.tree) refuse (λ place.
+      if nat_lt below left.height then too_deep else (do
+        take_token
+        assigned line place left.height <$> inner level.Whole))
+
+  -- no such mark comes next
+  unfoldable pub comparison : ℕ → Found → Reader Found
+  comparison line first = do
+    left ← climb level.Unary line below first
+    climb level.Sum line below left
+
+  unfoldable pub whole : Reader Found
+  whole = do
+    line ← here
+    first ← unary inner
+    λ i. if sees (codes "=") i then assignment line first i else comparison line first i
+
+  abbrev pub at_level : Level → Reader Found
+  at_level level.Whole = whole
+  at_level level.Sum = sum
+  at_level level.Unary = unary inner
+
+-- an expression with at most this many levels
+unfoldable pub expr : ℕ → Level → Reader Found
+expr zero level = too_deep
+expr (suc below) level = at_level (expr below) below level

@@ -1,0 +1,178 @@
+-- What the grammar reads from, and the steps that its rules are made of.
+use Rattle.std.specs.Prelude.{◌≡◌, ℕ, ◌+◌, Bool, true, false, not, ◌==◌, ◌&&◌, ◌||◌, if◌then◌else◌, List, [], ◌∷◌, length, Option, Some, None, Result, Ok, Err}
+use Rattle.std.specs.Str.{bytes_eq}
+use Rattle.xs_base.specs.declared.fault.Fault.{Fault}
+use Rattle.xs_base.specs.declared.fault.Refuse.{Refuse}
+use Rattle.xs_base.specs.declared.place.FileOf.{FileOf}
+use Rattle.xs_base.specs.Reading.{Fails}
+use Rattle.xs_csyn.specs.declared.token.Sort.{Sort}
+use Rattle.xs_csyn.specs.declared.token.Sort.TheVariants as sort
+use Rattle.xs_csyn.specs.declared.token.Token.{Token}
+use Rattle.xs_csyn.specs.Words.{is_among, no_names, type_words}
+
+-- the tokens that are left, the file, and the line of a fault at the early end
+pub record Input : Type 0 where
+  pub rest : List Token
+  pub file : FileOf
+  pub last : ℕ
+
+-- ---- a token
+
+abbrev pub is_sign_sort : Sort → Bool
+is_sign_sort sort.Sign = true
+is_sign_sort _ = false
+
+abbrev pub is_key_sort : Sort → Bool
+is_key_sort sort.Key = true
+is_key_sort _ = false
+
+abbrev pub is_quoted_sort : Sort → Bool
+is_quoted_sort sort.Quoted = true
+is_quoted_sort _ = false
+
+-- the token is this punctuator
+abbrev pub is_sign : List ℕ → Token → Bool
+is_sign text t = is_sign_sort t.sort && bytes_eq t.text text
+
+-- the token is this word
+abbrev pub is_key : List ℕ → Token → Bool
+is_key text t = is_key_sort t.sort && bytes_eq t.text text
+
+abbrev pub is_quoted : Token → Bool
+is_quoted t = is_quoted_sort t.sort
+
+abbrev pub is_type_word : Token → Bool
+is_type_word t = is_key_sort t.sort && is_among type_words t.text
+
+-- the token is a word that may be a name
+abbrev pub is_name_by : Sort → List ℕ → Bool
+is_name_by sort.Name text = true
+is_name_by sort.Key text = not (is_among no_names text)
+is_name_by _ text = false
+
+abbrev pub is_name : Token → Bool
+is_name t = is_name_by t.sort t.text
+
+-- ---- the next token
+
+abbrev pub head_is : (Token → Bool) → List Token → Bool
+head_is p [] = false
+head_is p (t ∷ ts) = p t
+
+abbrev pub tail : List Token → List Token
+tail [] = []
+tail (t ∷ ts) = ts
+
+abbrev pub line_at : ℕ → List Token → ℕ
+line_at last [] = last
+line_at last (t ∷ ts) = t.line
+
+abbrev pub sort_at : List Token → Option Sort
+sort_at [] = None
+sort_at (t ∷ ts) = Some t.sort
+
+abbrev pub text_at : List Token → List ℕ
+text_at [] = []
+text_at (t ∷ ts) = t.text
+
+unfoldable pub sees : List ℕ → Input → Bool
+sees text i = head_is (is_sign text) i.rest
+
+unfoldable pub sees_key : List ℕ → Input → Bool
+sees_key text i = head_is (is_key text) i.rest
+
+unfoldable pub sees_type : Input → Bool
+sees_type i = head_is is_type_word i.rest
+
+unfoldable pub sees_name : Input → Bool
+sees_name i = head_is is_name i.rest
+
+-- the line of the next token, or the last line
+unfoldable pub line : Input → ℕ
+line i = line_at i.last i.rest
+
+unfoldable pub next : Input → Input
+next i = record i { rest = tail i.rest }
+
+unfoldable pub sort_of : Input → Option Sort
+sort_of i = sort_at i.rest
+
+-- the next token's text, or nothing
+unfoldable pub spelling : Input → List ℕ
+spelling i = text_at i.rest
+
+-- how many tokens are left
+unfoldable pub left : Input → ℕ
+left i = length i.rest
+
+unfoldable pub fault : ℕ → Input → Fault
+fault code i = record { file = i.file; line = line i; code = code; word = [] }
+
+-- ---- readers
+
+abbrev pub Outcome : Type 0 → Type 0
+Outcome A = Result (A × Input) Fault
+
+abbrev pub Reader : Type 0 → Type 0
+Reader A = Input → Outcome A
+
+abbrev pub and_then : {A B : Type 0} → Outcome A → (A → Reader B) → Outcome B
+and_then (Ok p) f = f p.0 p.1
+and_then (Err e) f = Err e
+
+infixl 10 ◌>>=◌
+abbrev pub ◌>>=◌ : {A B : Type 0} → Reader A → (A → Reader B) → Reader B
+p >>= f = λ i. and_then (p i) f
+
+infixl 10 ◌>>◌
+abbrev pub ◌>>◌ : {A B : Type 0} → Reader A → Reader B → Reader B
+p >> q = p >>= (λ _. q)
+
+abbrev pub pure : {A : Type 0} → A → Reader A
+pure a = λ i. Ok (a, i)
+
+infixr 11 ◌<$>◌
+abbrev pub ◌<$>◌ : {A B : Type 0} → (A → B) → Reader A → Reader B
+f <$> p = p >>= (λ x. pure (f x))
+
+-- no reading here
+abbrev pub refuse : {A : Type 0} → Reader A
+refuse = λ i. Err (fault 704 i)
+
+abbrev pub too_deep : {A : Type 0} → Reader A
+too_deep = λ i. Err (fault 705 i)
+
+abbrev pub peek : Reader (Option Sort)
+peek = λ i. Ok (sort_of i, i)
+
+-- the line of the next token
+abbrev pub here : Reader ℕ
+here = λ i. Ok (line i, i)
+
+abbrev pub take_token : Reader (List ℕ)
+take_token = λ i. Ok (spelling i, next i)
+
+unfoldable pub after : List ℕ → Input → Input
+after text i = if sees text i then next i else i
+
+-- takes this punctuator, if it comes next
+abbrev pub eat : List ℕ → Reader Bool
+eat text = λ i. Ok (sees text i, after text i)
+
+unfoldable pub expect : List ℕ → Reader (Unit {0})
+expect text = λ i. if sees text i then Ok (tt, next i) else refuse i
+
+unfoldable pub expect_key : List ℕ → Reader (Unit {0})
+expect_key text = λ i. if sees_key text i then Ok (tt, next i) else refuse i
+
+unfoldable pub a_name : Reader (List ℕ)
+a_name = λ i. if sees_name i then take_token i else refuse i
+
+unfoldable pub a_type_word : Reader (List ℕ)
+a_type_word = λ i. if sees_type i then take_token i else refuse i
+
+-- ---- what a function that reads ensures
+
+abbrev pub Reads : {X A : Type 0} → (X → A) → Outcome A → Result X Refuse → Input → Type 0
+Reads view outcome (Ok x) new = outcome ≡ Ok (view x, new)
+Reads view outcome (Err e) new = Fails e outcome

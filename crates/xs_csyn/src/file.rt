@@ -1,0 +1,108 @@
+//! C text is read as a file.
+
+ghost use Rattle.std.specs.Prelude.{◌≡◌, ◌-◌, ◌^◌, ◌<◌, IfOk, length};
+ghost use Rattle.xs_base.specs.Reading.{GivesBy};
+ghost use Rattle.xs_csyn.specs.Files as spec;
+ghost use Rattle.xs_csyn.specs.Input.{Reads};
+ghost use Rattle.xs_csyn.specs.View.{file_tree, function_tree, item_trees};
+
+use crate::cursor::Cursor;
+use crate::lexing::tokens;
+use crate::stmts::{MAX_NESTING, parts};
+use crate::{CFile, FileItem, XsFun};
+use std::alloc::Global;
+use xs_base::{Bytes, FileOf, Items, Line, Memory, Refuse, lines};
+use xs_values::DataModel;
+
+/// The word that begins the body of each XS function has to come next (perlxs). It is not taken.
+#[tactic(auto, unfolding(crate::specs::Files::body_begins))]
+fn body_begins(alloc: Global, cursor: &Cursor<'_>) -> Result<(), Refuse>
+    ensures { Reads (λ u. u) (spec.body_begins cursor.now) result cursor.now }
+{
+    if cursor.sees_key(b"dXSARGS") {
+        Ok(())
+    } else {
+        Err(cursor.refuse(alloc, 704))
+    }
+}
+
+/// An XS function.
+#[tactic(auto, unfolding(crate::specs::Files::function))]
+fn function(alloc: Global, cursor: &mut Cursor<'_>) -> Result<XsFun, Refuse>
+    ensures { Reads function_tree (spec.function cursor.old) result cursor.new }
+{
+    let line = cursor.line();
+    cursor.expect_key(alloc, b"XS")?;
+    cursor.expect(alloc, b"(")?;
+    let name = cursor.name(alloc)?;
+    cursor.expect(alloc, b")")?;
+    cursor.expect(alloc, b"{")?;
+    body_begins(alloc, cursor)?;
+    let body = parts(alloc, cursor, MAX_NESTING - 1)?;
+    Ok(XsFun { line, name, body })
+}
+
+/// All that is left, as the items of a file.
+#[tactic(auto, unfolding(crate::specs::Files::items, crate::specs::Files::items_from))]
+fn items(alloc: Global, cursor: &mut Cursor<'_>) -> Result<Items<FileItem>, Refuse>
+    ensures { Reads item_trees (spec.items cursor.old) result cursor.new }
+{
+    let mut all = Items::new(alloc);
+    for _turn in 0..cursor.left() {
+        if cursor.left() == 0 {
+            return Ok(all);
+        }
+        let one = function(alloc, cursor)?;
+        all.push(FileItem::XsFun(one))?;
+    }
+    if cursor.left() == 0 {
+        Ok(all)
+    } else {
+        Err(cursor.refuse(alloc, 704))
+    }
+}
+
+fn last_of(all: &[Line]) -> u32
+    ensures { result ≡ spec.last_of 1 all.now }
+{
+    let mut last = 1;
+    for line in all {
+        if !line.text.is_empty() {
+            last = line.number;
+        }
+    }
+    last
+}
+
+/// The last line that is not empty, or 1.
+#[tactic(auto, unfolding(crate::specs::Files::last_line))]
+fn last_line(alloc: Global, src: &Bytes) -> Result<u32, Memory>
+    requires { length src.now < 2 ^ 32 - 1 }
+    ensures { IfOk result (λ n. n ≡ spec.last_line src.now) }
+{
+    let all = lines(alloc, src)?;
+    Ok(last_of(all.as_slice()))
+}
+
+/// Reads a C text by the grammar of the glue: XS functions with declarations of `int`, `IV` and `SV`, expressions of names,
+/// integers, texts, calls, casts, assignments, `+` and `!=`, blocks, `if`, and three words of the XS interface (perlxs).
+///
+/// The first fault is told where there is one. Faults of tokens go first, in their order: 701 for a byte that may not stand
+/// where it does, 702 for a text or comment that does not end, on the line where it begins, 703 for an integer of more than
+/// 64 bits. Else it is 704 at the first token with no reading, or 705 where statements or an expression stand more than 64
+/// deep: at the first token of what stands too deep, or at the operator that would push its left operand too deep. At the
+/// early end of the text the line is the last that is not empty, or 1.
+#[tactic(auto, using(crate::proofs::Few::tokens_few), unfolding(crate::specs::Files::file_of, crate::specs::Files::tree_of))]
+pub fn read_file(alloc: Global, src: &Bytes, file: FileOf) -> Result<CFile, Refuse>
+    requires { length src.now < 2 ^ 32 - 1 }
+    ensures { GivesBy file_tree result (spec.file_of file src.now) }
+{
+    let all = tokens(alloc, src.as_slice(), file)?;
+    let last = last_line(alloc, src)?;
+    let mut cursor = Cursor::new(all.as_slice(), file, last);
+    let items = items(alloc, &mut cursor)?;
+    Ok(CFile {
+        model: DataModel::Lp64,
+        items,
+    })
+}

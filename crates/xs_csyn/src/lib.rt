@@ -1,0 +1,19 @@
+//! The C grammar of glue text: its trees, and the reader that makes them.
+#![tactic(auto)]
+
+mod building;
+mod cursor;
+mod exprs;
+mod file;
+mod lexing;
+mod node;
+mod state;
+mod stmts;
+#[cfg(test)]
+mod tests;
+mod token;
+mod tree;
+mod words;
+
+pub use file::read_file;
+pub use tree::{BinaryOp, CFile, CType, Expr, FileItem, PerlForm, Place, Stmt, XsFun};

@@ -1,0 +1,28 @@
+//! The tokens of C text.
+
+use xs_base::Bytes;
+
+/// What a token is to the grammar.
+#[derive(Clone, Copy, Debug, PartialEq, Eq)]
+pub enum Sort {
+    /// A word that the grammar, the XS interface or the glue gives a meaning.
+    Key,
+    /// Any other word.
+    Name,
+    /// An integer in decimal without suffix, by its value.
+    Numeral(u64),
+    /// Any other word that begins with a digit.
+    OtherNumeral,
+    /// A text in quotes, without them.
+    Quoted,
+    /// A punctuator.
+    Sign,
+}
+
+/// A token, and the line that it stands on, counted from 1.
+#[derive(Debug, Drop)]
+pub struct Token {
+    pub sort: Sort,
+    pub text: Bytes,
+    pub line: u32,
+}

@@ -1,0 +1,46 @@
+-- How the commands of lines go on.
+use Rattle.std.proofs.Common.{◌≡◌, ℕ, suc, ◌+◌, ◌<◌, ◌≤◌, List, [], ◌∷◌, ◌++◌, length, get_or, drop, Option, Some, None, Result, Ok, Err, refl, ap, sym, ◌∙◌, arith, append_assoc}
+use Rattle.std.proofs.lemmas.List.{append-nil}
+use Rattle.std.proofs.Math.Seq.{drop-cons}
+use Rattle.std.proofs.Math.ListN.{drop_of_length-le}
+use Rattle.xs_base.specs.declared.fault.Fault.{Fault}
+use Rattle.xs_base.specs.declared.fault.Refuse.{Refuse}
+use Rattle.xs_base.specs.declared.fault.Refuse.TheVariants as refuse
+use Rattle.xs_base.specs.declared.place.Line.{Line}
+use Rattle.xs_base.specs.Reading.{Fails, ◌>>=◌}
+use Rattle.xs_script.specs.declared.scope.Scope.{Scope}
+use Rattle.xs_script.specs.Expr.{Said}
+use Rattle.xs_script.specs.Script.{line_of, commands_from, with_front, go_on, behind}
+
+with_front-with_front : (xs ys : List Said) (r : Result (List Said) Fault) → with_front xs (with_front ys r) ≡ with_front (xs ++ ys) r
+with_front-with_front xs ys (Ok zs) = ap (λ (l : List Said). let r : Result (List Said) Fault = Ok l in r) (simp append_assoc)
+with_front-with_front xs ys (Err f) = refl
+
+commands_from-drop : (lines : List Line) (i : ℕ) (d : Line) (scope : Scope) → i < length lines
+    → commands_from (drop i lines) scope ≡ (line_of scope (get_or lines i d) >>= λ said. go_on said scope (commands_from (drop (i + 1) lines)))
+unfolding commands_from
+commands_from-drop lines i d scope h =
+    let s : suc i ≡ i + 1 = omega arith in
+    ap (λ (l : List Line). commands_from l scope) (drop-cons lines i d h) ∙ ap (λ n. line_of scope (get_or lines i d) >>= λ said. go_on said scope (commands_from (drop n lines))) s
+
+pub some_command : (before : List Said) (lines : List Line) (i : ℕ) (d : Line) (scope : Scope) (said : Said) → i < length lines → line_of scope (get_or lines i d) ≡ Ok (Some said)
+    → with_front before (commands_from (drop i lines) scope) ≡ with_front (before ++ said ∷ []) (commands_from (drop (i + 1) lines) (behind said scope))
+some_command before lines i d scope said h e =
+    rw (commands_from-drop lines i d scope h, e) (with_front-with_front before (said ∷ []) (commands_from (drop (i + 1) lines) (behind said scope)))
+
+pub no_command : (before : List Said) (lines : List Line) (i : ℕ) (d : Line) (scope : Scope) → i < length lines → line_of scope (get_or lines i d) ≡ Ok None
+    → with_front before (commands_from (drop i lines) scope) ≡ with_front before (commands_from (drop (i + 1) lines) scope)
+no_command before lines i d scope h e = rw (commands_from-drop lines i d scope h, e) refl
+
+fails_before : {A : Type 0} (e : Refuse) (before : List Said) (r : Result A Fault) (next : A → Result (List Said) Fault) → Fails e r → Fails e (with_front before (r >>= next))
+fails_before refuse.Memory before r next h = tt
+fails_before (refuse.Fault f) before r next h = rw h refl
+
+pub line_fails : (e : Refuse) (before : List Said) (lines : List Line) (i : ℕ) (d : Line) (scope : Scope) → i < length lines → Fails e (line_of scope (get_or lines i d))
+    → Fails e (with_front before (commands_from (drop i lines) scope))
+line_fails e before lines i d scope h fails =
+    rw (commands_from-drop lines i d scope h) (fails_before e before (line_of scope (get_or lines i d)) (λ said. go_on said scope (commands_from (drop (i + 1) lines))) fails)
+
+pub all_lines : (before : List Said) (lines : List Line) (i : ℕ) (scope : Scope) → length lines ≤ i → with_front before (commands_from (drop i lines) scope) ≡ Ok before
+unfolding commands_from
+all_lines before lines i scope h = rw (drop_of_length-le lines h) (ap (λ (l : List Said). let r : Result (List Said) Fault = Ok l in r) (append-nil before))

@@ -1,0 +1,20 @@
+-- The program's open brackets as plain data.
+use Rattle.std.specs.Prelude.{ℕ, List, map, reverse}
+use Rattle.std.specs.Option.{option_map}
+use Rattle.xs_script.specs.declared.command.E.{E}
+use Rattle.xs_script.specs.declared.around.Open.{Open}
+use Rattle.xs_script.specs.declared.around.Open.TheVariants as o
+use Rattle.xs_script.specs.Expr.{Expr}
+use Rattle.xs_script.specs.View.{plain}
+use Rattle.xs_script.specs.Value.{Bracket, InList, InHash}
+
+abbrev pub entry : List ℕ × E → List ℕ × Expr
+entry p = (p.0, plain p.1)
+
+abbrev pub bracket : Open → Bracket
+bracket (o.List items) = InList (map plain items.items)
+bracket (o.Hash entries name) = InHash (map entry entries.items) name
+
+-- the brackets from the innermost on, of a list whose last is the innermost
+abbrev pub around_of : List Open → List Bracket
+around_of opens = reverse (map bracket opens)

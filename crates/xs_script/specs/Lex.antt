@@ -1,0 +1,169 @@
+-- The parts of a line.
+use Rattle.std.specs.List.{prefix_len}
+use Rattle.std.specs.Prelude.{ℕ, zero, suc, ◌+◌, ◌*◌, ◌-◌, Bool, true, false, not, ◌&&◌, ◌||◌, ◌==◌, if◌then◌else◌, nat_le, List, [], ◌∷◌, ◌++◌, take, drop, Option, Some, None}
+use Rattle.xs_script.specs.declared.token.Token.{Token}
+use Rattle.xs_script.specs.declared.token.Token.TheVariants as token
+use Rattle.xs_script.specs.declared.token.Mark.{Mark}
+use Rattle.xs_script.specs.declared.token.Mark.TheVariants as mark
+use Rattle.xs_script.specs.declared.token.Front.{Front}
+use Rattle.xs_script.specs.declared.token.Front.TheVariants as front
+use Rattle.xs_script.specs.declared.lexing.PathPlace.{PathPlace}
+use Rattle.xs_script.specs.declared.lexing.PathPlace.TheVariants as path
+use Rattle.xs_script.specs.declared.lexing.TextPlace.{TextPlace}
+use Rattle.xs_script.specs.declared.lexing.TextPlace.TheVariants as text
+
+-- ---- bytes
+
+abbrev pub is_blank : ℕ → Bool
+is_blank b = b == 32 || b == 9
+
+abbrev pub is_digit : ℕ → Bool
+is_digit b = nat_le 48 b && nat_le b 57
+
+abbrev pub begins_word : ℕ → Bool
+begins_word b = (nat_le 65 b && nat_le b 90) || ((nat_le 97 b && nat_le b 122) || b == 95)
+
+abbrev pub is_in_word : ℕ → Bool
+is_in_word b = begins_word b || is_digit b
+
+abbrev pub is_in_path : ℕ → Bool
+is_in_path b = is_in_word b || b == 58
+
+abbrev pub begins_with : ℕ → List ℕ → Bool
+begins_with b [] = false
+begins_with b (first ∷ bytes) = first == b
+
+-- the value of a hexadecimal digit of either case
+abbrev pub hex_value : ℕ → Option ℕ
+hex_value b =
+    if nat_le 48 b && nat_le b 57 then Some (b - 48)
+    else (if nat_le 65 b && nat_le b 70 then Some (b - 55)
+    else (if nat_le 97 b && nat_le b 102 then Some (b - 87) else None))
+
+-- ---- names
+
+-- whether the rest is one of identifiers joined by `::`, of which the byte of this place comes next
+abbrev pub is_path : PathPlace → List ℕ → Bool
+is_path path.First [] = false
+is_path path.First (b ∷ bs) = begins_word b && is_path path.Within bs
+is_path path.Within [] = true
+is_path path.Within (b ∷ bs) = if b == 58 then is_path path.Colon bs else (is_in_word b && is_path path.Within bs)
+is_path path.Colon [] = false
+is_path path.Colon (b ∷ bs) = b == 58 && is_path path.First bs
+
+-- A name. A number right behind it begins with its sign, since a digit would belong to the name.
+abbrev pub name_of_len : ℕ → List ℕ → Front
+name_of_len len bytes = if is_path path.First (take len bytes) && not (begins_with 45 (drop len bytes)) then front.Piece (token.Name (take len bytes)) len else front.Nothing
+
+abbrev pub name_front : List ℕ → Front
+name_front bytes = name_of_len (prefix_len is_in_path bytes) bytes
+
+-- ---- numbers
+
+abbrev pub number_of_len : ℕ → ℕ → List ℕ → Front
+number_of_len sign digits bytes = if digits == 0 then front.Nothing else front.Piece (token.Number (take (sign + digits) bytes)) (sign + digits)
+
+-- a number, of which this many bytes are its sign
+abbrev pub number_front : ℕ → List ℕ → Front
+number_front sign bytes = number_of_len sign (prefix_len is_digit (drop sign bytes)) bytes
+
+-- ---- texts
+
+-- what \" \\ \n and \t stand for, by the byte behind the backslash
+abbrev pub escape_value : ℕ → Option ℕ
+escape_value b = if b == 34 || b == 92 then Some b else (if b == 110 then Some 10 else (if b == 116 then Some 9 else None))
+
+abbrev pub plainly : Option ℕ → Option (TextPlace × Option ℕ)
+plainly (Some value) = Some (text.Plain, Some value)
+plainly None = None
+
+abbrev pub high_digit : Option ℕ → Option (TextPlace × Option ℕ)
+high_digit (Some high) = Some (text.Low high, None)
+high_digit None = None
+
+abbrev pub low_digit : ℕ → Option ℕ → Option (TextPlace × Option ℕ)
+low_digit high (Some low) = Some (text.Plain, Some (16 * high + low))
+low_digit high None = None
+
+-- where reading of a text comes to behind this byte, and the byte of the text that ends there
+abbrev pub text_step : TextPlace → ℕ → Option (TextPlace × Option ℕ)
+text_step text.Plain b = if b == 92 then Some (text.Escape, None) else Some (text.Plain, Some b)
+text_step text.Escape b = if b == 120 then Some (text.High, None) else plainly (escape_value b)
+text_step text.High b = high_digit (hex_value b)
+text_step (text.Low high) b = low_digit high (hex_value b)
+
+abbrev pub listed : Option ℕ → List ℕ
+listed None = []
+listed (Some b) = b ∷ []
+
+abbrev pub closes : TextPlace → ℕ → Bool
+closes text.Plain b = b == 34
+closes text.Escape b = false
+closes text.High b = false
+closes (text.Low high) b = false
+
+abbrev pub on_step : Option (TextPlace × Option ℕ) → (TextPlace → List ℕ → Front) → Front
+on_step None go = front.Nothing
+on_step (Some next) go = go next.0 (listed next.1)
+
+-- A text, of which so many bytes were read and stand for these bytes, from this place on.
+abbrev pub text_front : TextPlace → List ℕ → ℕ → List ℕ → Front
+text_front place content n [] = front.Nothing
+text_front place content n (b ∷ bs) =
+    if closes place b then front.Piece (token.Text content) (n + 1)
+    else on_step (text_step place b) (λ next more. text_front next (content ++ more) (n + 1) bs)
+
+-- ---- marks
+
+abbrev pub single : ℕ → Option Mark
+single b =
+    if b == 61 then Some mark.Equals
+    else (if b == 40 then Some mark.OpenRound
+    else (if b == 41 then Some mark.CloseRound
+    else (if b == 91 then Some mark.OpenSquare
+    else (if b == 93 then Some mark.CloseSquare
+    else (if b == 123 then Some mark.OpenCurly
+    else (if b == 125 then Some mark.CloseCurly
+    else (if b == 44 then Some mark.Comma
+    else (if b == 59 then Some mark.Semicolon
+    else (if b == 92 then Some mark.Backslash else None)))))))))
+
+abbrev pub alone : Option Mark → Front
+alone (Some m) = front.Piece (token.Mark m) 1
+alone None = front.Nothing
+
+abbrev pub mark_front : ℕ → List ℕ → Front
+mark_front b after = if b == 61 && begins_with 62 after then front.Piece (token.Mark mark.Arrow) 2 else alone (single b)
+
+-- ---- lines
+
+-- what stands at the front of the rest of a line
+unfoldable pub front_of : List ℕ → Front
+front_of [] = front.Nothing
+front_of (b ∷ bs) =
+    if is_blank b then front.Blank
+    else (if begins_word b then name_front (b ∷ bs)
+    else (if is_digit b then number_front 0 (b ∷ bs)
+    else (if b == 45 then number_front 1 (b ∷ bs)
+    else (if b == 34 then text_front text.Plain [] 1 bs
+    else mark_front b bs))))
+
+abbrev pub with_front : List Token → Option (List Token) → Option (List Token)
+with_front ts (Some us) = Some (ts ++ us)
+with_front ts None = None
+
+-- the parts of a line, with those behind the front by how many of its further bytes are passed over
+abbrev pub by_front : Front → (ℕ → Option (List Token)) → Option (List Token)
+by_front front.Blank behind = behind 0
+by_front (front.Piece token len) behind = with_front (token ∷ []) (behind (len - 1))
+by_front front.Nothing behind = None
+
+-- the parts of the rest of a line, whose first bytes, as many as the number says, belong to the part before
+unfoldable pub tokens_from : ℕ → List ℕ → Option (List Token)
+tokens_from skip [] = Some []
+tokens_from (suc skip) (b ∷ bs) = tokens_from skip bs
+tokens_from zero (b ∷ bs) = by_front (front_of (b ∷ bs)) (λ skip. tokens_from skip bs)
+
+-- the parts of a line, or None where a byte begins no part
+abbrev pub tokens_of : List ℕ → Option (List Token)
+tokens_of line = tokens_from 0 line

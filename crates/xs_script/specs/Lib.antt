@@ -1,0 +1,14 @@
+pub mod ValueText
+pub mod Telling
+pub mod Fits
+pub mod Lex
+pub mod Expr
+pub mod View
+pub mod Numbers
+pub mod Scope
+pub mod Input
+pub mod Value
+pub mod Brackets
+pub mod Partial
+pub mod Rules
+pub mod Script

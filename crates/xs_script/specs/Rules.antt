@@ -1,0 +1,134 @@
+-- Commands and actions.
+use Rattle.std.specs.Prelude.{ℕ, zero, suc, Bool, true, false, if◌then◌else◌, List, [], ◌∷◌, ◌++◌, codes, ◌&&◌, ◌||◌}
+use Rattle.xs_script.specs.declared.token.Token.{Token}
+use Rattle.xs_script.specs.declared.token.Kind.{Kind}
+use Rattle.xs_script.specs.declared.token.Kind.TheVariants as kind
+use Rattle.xs_script.specs.declared.token.Mark.TheVariants as mark
+use Rattle.xs_script.specs.Expr as p
+use Rattle.xs_script.specs.Expr.{Expr, Act, Said}
+use Rattle.xs_script.specs.Input as i
+use Rattle.xs_script.specs.Input.{Input, Outcome, Reader, ◌>>=◌, ◌>>◌, ◌<$>◌, pure, refuse, peek, eat, eat_word, expect, sees_word, kind_of, next, left}
+use Rattle.xs_script.specs.Value.{value, variable, argument}
+
+-- the arguments of a call behind the opening parenthesis and its first argument; each takes a part, so that the count of the parts is enough
+unfoldable pub arguments_from : Bool → ℕ → List Expr → Reader (List Expr)
+arguments_from in_sub zero all = refuse
+arguments_from in_sub (suc n) all = do
+  e ← value in_sub
+  more ← eat mark.Comma
+  if more then arguments_from in_sub n (all ++ e ∷ []) else (expect mark.CloseRound >> pure (all ++ e ∷ []))
+
+unfoldable pub some_arguments : Bool → Reader (List Expr)
+some_arguments in_sub = λ input. arguments_from in_sub (left input) [] input
+
+-- the arguments of a call, with their parentheses
+unfoldable pub arguments : Bool → Reader (List Expr)
+arguments in_sub = do
+  expect mark.OpenRound
+  is_empty ← eat mark.CloseRound
+  if is_empty then pure [] else some_arguments in_sub
+
+unfoldable pub set_action : Reader Act
+set_action = do
+  k ← argument
+  expect mark.Equals
+  p.Set k <$> value true
+
+unfoldable pub call_action : Reader Act
+call_action = do
+  sub ← i.sub_name
+  p.Call sub <$> arguments true
+
+unfoldable pub action : Reader Act
+action = do
+  is_push ← eat_word (codes "push")
+  if is_push then p.Push <$> value true else (do
+    is_set ← eat_word (codes "set")
+    if is_set then set_action else (do
+      is_call ← eat_word (codes "call")
+      if is_call then call_action else (do
+        is_die ← eat_word (codes "die")
+        if is_die then p.Die <$> i.text else refuse)))
+
+-- the actions of a sub
+unfoldable pub actions_from : ℕ → List Act → Reader (List Act)
+actions_from zero all = refuse
+actions_from (suc n) all = do
+  a ← action
+  more ← eat mark.Semicolon
+  if more then actions_from n (all ++ a ∷ []) else pure (all ++ a ∷ [])
+
+unfoldable pub actions : Reader (List Act)
+actions = λ input. actions_from (left input) [] input
+
+abbrev pub names_sub : Kind → Bool
+names_sub kind.Name = true
+names_sub kind.Number = false
+names_sub kind.Text = true
+names_sub kind.Mark = false
+names_sub kind.End = false
+
+-- A call comes next: the word `call` and the name of a sub. The word alone may be a variable.
+unfoldable pub sees_call : Input → Bool
+sees_call input = sees_word (codes "call") input && names_sub (kind_of (next input))
+
+unfoldable pub call_value : ℕ → List ℕ → Reader Said
+call_value line name = do
+  eat_word (codes "call")
+  sub ← i.sub_name
+  p.MyCall line name sub <$> arguments false
+
+unfoldable pub my_command : ℕ → Reader Said
+my_command line = do
+  name ← i.name
+  expect mark.Equals
+  is_call ← (λ input. i.told (sees_call input) input)
+  if is_call then call_value line name else p.My line name <$> value false
+
+unfoldable pub call_command : ℕ → Reader Said
+call_command line = do
+  sub ← i.sub_name
+  p.CallSub line sub <$> arguments false
+
+unfoldable pub isa_command : ℕ → Reader Said
+isa_command line = do
+  class ← i.name
+  parent ← i.name
+  pure (p.Isa line class parent)
+
+unfoldable pub sub_command : ℕ → Reader Said
+sub_command line = do
+  sub ← i.sub_name
+  expect mark.Equals
+  p.Sub line sub <$> actions
+
+-- the commands whose one part is a variable
+unfoldable pub variable_command : ℕ → Reader Said
+variable_command line = do
+  is_ro ← eat_word (codes "ro")
+  if is_ro then p.Ro line <$> variable else (do
+    is_show ← eat_word (codes "show")
+    if is_show then p.Show line <$> variable else (do
+      is_drop ← eat_word (codes "drop")
+      if is_drop then p.Drop line <$> variable else refuse))
+
+unfoldable pub by_word : ℕ → Reader Said
+by_word line = do
+  is_my ← eat_word (codes "my")
+  if is_my then my_command line else (do
+    is_call ← eat_word (codes "call")
+    if is_call then call_command line else (do
+      is_isa ← eat_word (codes "isa")
+      if is_isa then isa_command line else (do
+        is_sub ← eat_word (codes "sub")
+        if is_sub then sub_command line else variable_command line)))
+
+unfoldable pub at_end : Reader (Unit {0})
+at_end = λ input. i.ended (kind_of input) input
+
+-- a whole line
+unfoldable pub command : ℕ → Reader Said
+command line = do
+  said ← by_word line
+  at_end
+  pure said

@@ -1,0 +1,161 @@
+-- Lines and scripts, with their first faults.
+use Rattle.std.specs.Prelude.{◌≡◌, ℕ, ◌+◌, ◌==◌, Bool, true, false, ◌&&◌, ◌||◌, if◌then◌else◌, nat_lt, nat_le, List, [], ◌∷◌, ◌++◌, length, Option, None, Some, Result, Ok, Err}
+use Rattle.xs_base.specs.Lines.{lines_of}
+use Rattle.xs_base.specs.Reading.{◌>>=◌}
+use Rattle.xs_base.specs.declared.fault.Fault.{Fault}
+use Rattle.xs_base.specs.declared.place.FileOf.TheVariants as file
+use Rattle.xs_base.specs.declared.place.Line.{Line}
+use Rattle.xs_script.specs.declared.cursor.Met.{Met}
+use Rattle.xs_script.specs.declared.scope.Scope.{Scope}
+use Rattle.xs_script.specs.declared.command.Command.{Command}
+use Rattle.xs_script.specs.declared.token.Stop.{Stop}
+use Rattle.xs_script.specs.declared.token.Stop.TheVariants as stop
+use Rattle.xs_script.specs.declared.token.Token.{Token}
+use Rattle.xs_script.specs.View.{said}
+use Rattle.xs_script.specs.Expr as p
+use Rattle.xs_script.specs.Expr.{Said}
+use Rattle.xs_script.specs.Input.{Input, Outcome, start_of, met}
+use Rattle.xs_script.specs.Lex.{is_blank, tokens_of}
+use Rattle.xs_script.specs.Rules.{command}
+use Rattle.xs_script.specs.Scope.{holds}
+use Rattle.xs_script.specs.Value.{max_nesting}
+
+-- ---- limits
+
+abbrev pub max_commands : ℕ
+max_commands = 10000
+
+abbrev pub max_variables : ℕ
+max_variables = 256
+
+abbrev pub max_subs : ℕ
+max_subs = 256
+
+-- ---- what a command does to the scope
+
+abbrev pub empty_scope : Scope
+empty_scope = record { variables = []; dropped = []; subs = []; commands = 0 }
+
+abbrev pub one_more : Scope → Scope
+one_more scope = record scope { commands = scope.commands + 1 }
+
+abbrev pub with_variable : List ℕ → Scope → Scope
+with_variable name scope = record scope { variables = scope.variables ++ name ∷ [] }
+
+abbrev pub with_sub : List ℕ → Scope → Scope
+with_sub name scope = record scope { subs = scope.subs ++ name ∷ [] }
+
+abbrev pub without : List ℕ → Scope → Scope
+without name scope = record scope { dropped = scope.dropped ++ name ∷ [] }
+
+abbrev pub behind : Said → Scope → Scope
+behind (p.My line name e) scope = one_more (with_variable name scope)
+behind (p.MyCall line name sub args) scope = one_more (with_variable name scope)
+behind (p.Ro line name) scope = one_more scope
+behind (p.CallSub line sub args) scope = one_more scope
+behind (p.Show line name) scope = one_more scope
+behind (p.Drop line name) scope = one_more (without name scope)
+behind (p.Isa line class parent) scope = one_more scope
+behind (p.Sub line sub actions) scope = one_more (with_sub sub scope)
+
+-- ---- faults of a line that has a reading
+
+abbrev pub if_held : List (List ℕ) → List ℕ → Option (List ℕ)
+if_held names name = if holds names name then Some name else None
+
+-- A variable or a sub that was declared before. The two have names apart.
+abbrev pub twice : Scope → Said → Option (List ℕ)
+twice scope (p.My line name e) = if_held scope.variables name
+twice scope (p.MyCall line name sub args) = if_held scope.variables name
+twice scope (p.Ro line name) = None
+twice scope (p.CallSub line sub args) = None
+twice scope (p.Show line name) = None
+twice scope (p.Drop line name) = None
+twice scope (p.Isa line class parent) = None
+twice scope (p.Sub line sub actions) = if_held scope.subs sub
+
+-- a declaration that goes over its own limit
+abbrev pub is_over : Scope → Said → Bool
+is_over scope (p.My line name e) = nat_le max_variables (length scope.variables)
+is_over scope (p.MyCall line name sub args) = nat_le max_variables (length scope.variables)
+is_over scope (p.Ro line name) = false
+is_over scope (p.CallSub line sub args) = false
+is_over scope (p.Show line name) = false
+is_over scope (p.Drop line name) = false
+is_over scope (p.Isa line class parent) = false
+is_over scope (p.Sub line sub actions) = nat_le max_subs (length scope.subs)
+
+abbrev pub is_full : Scope → Said → Bool
+is_full scope said = is_over scope said || nat_le max_commands scope.commands
+
+abbrev pub fault : ℕ → ℕ → List ℕ → Fault
+fault line code word = record { file = file.Script; line = line; code = code; word = word }
+
+-- a fault with its word, or what comes where there is none
+abbrev pub word_or : ℕ → ℕ → Option (List ℕ) → Option Fault → Option Fault
+word_or line code (Some word) rest = Some (fault line code word)
+word_or line code None rest = rest
+
+-- a fault without a word, or what comes where there is none
+abbrev pub bare_or : ℕ → ℕ → Bool → Option Fault → Option Fault
+bare_or line code b rest = if b then Some (fault line code []) else rest
+
+-- The fault of a line that has a reading: the one of the least code, and of these the leftmost.
+unfoldable pub first_fault : Scope → ℕ → Said → Met → Option Fault
+first_fault scope line said met =
+    word_or line 952 met.unknown
+    (word_or line 953 (twice scope said)
+    (word_or line 954 met.beyond
+    (bare_or line 955 (nat_lt max_nesting met.deepest)
+    (bare_or line 956 (is_full scope said) None))))
+
+-- ---- lines
+
+-- a line without a command: empty but for blanks, or with a `#` behind its blanks
+abbrev pub is_skipped : List ℕ → Bool
+is_skipped [] = true
+is_skipped (b ∷ bs) = if is_blank b then is_skipped bs else b == 35
+
+abbrev pub faulty : Option Fault → Said → Result (Option Said) Fault
+faulty (Some f) said = Err f
+faulty None said = Ok (Some said)
+
+abbrev pub judged : Scope → ℕ → Outcome Said → Result (Option Said) Fault
+judged scope line (Some read) = faulty (first_fault scope line read.0 (met read.1)) read.0
+judged scope line None = Err (fault line 951 [])
+
+abbrev pub read_parts : Scope → ℕ → Option (List Token) → Outcome Said
+read_parts scope line (Some parts) = command line (start_of scope parts)
+read_parts scope line None = None
+
+unfoldable pub reading_of : Scope → Line → Outcome Said
+reading_of scope line = read_parts scope line.number (tokens_of line.text)
+
+-- What a call that reads a line ensures: the command and what was met, or that there is no reading.
+abbrev pub ReadsLine : Result (Command × Met) Stop → Outcome Said → Type 0
+ReadsLine (Ok read) outcome = (i : Input) × (outcome ≡ Some (said read.0, i)) × (met i ≡ read.1)
+ReadsLine (Err stop.Unread) outcome = outcome ≡ None
+ReadsLine (Err stop.Memory) outcome = Unit {0}
+
+-- the command of a line, if it has one, or its first fault
+unfoldable pub line_of : Scope → Line → Result (Option Said) Fault
+line_of scope line = if is_skipped line.text then Ok None else judged scope line.number (reading_of scope line)
+
+-- ---- scripts
+
+abbrev pub with_front : List Said → Result (List Said) Fault → Result (List Said) Fault
+with_front before (Ok after) = Ok (before ++ after)
+with_front before (Err f) = Err f
+
+abbrev pub go_on : Option Said → Scope → (Scope → Result (List Said) Fault) → Result (List Said) Fault
+go_on None scope rest = rest scope
+go_on (Some said) scope rest = with_front (said ∷ []) (rest (behind said scope))
+
+-- the commands of lines that follow these declarations
+unfoldable pub commands_from : List Line → Scope → Result (List Said) Fault
+commands_from [] scope = Ok []
+commands_from (line ∷ lines) scope = line_of scope line >>= λ said. go_on said scope (commands_from lines)
+
+-- the commands of a script, or the first fault
+abbrev pub script_of : List ℕ → Result (List Said) Fault
+script_of src = commands_from (lines_of src) empty_scope

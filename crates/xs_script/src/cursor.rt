@@ -1,0 +1,304 @@
+//! The parts that are left of a line.
+ghost use Rattle.std.specs.Prelude.{◌≡◌, ◌<◌, ◌^◌, None};
+ghost use Rattle.xs_script.specs.Input as spec;
+ghost use Rattle.xs_script.specs.Input.{Reads};
+
+use crate::scope::{Scope, is_alive};
+use crate::token::{Kind, Mark, Stop, Token};
+use std::alloc::Global;
+use std::marker::Model;
+use xs_base::Bytes;
+
+/// The parts that are left, and what was met so far that is at fault in a line with a reading.
+#[derive(Drop)]
+pub struct Cursor<'a> {
+    rest: &'a [Token],
+    scope: &'a Scope,
+    /// The first variable that is not known.
+    unknown: Option<Bytes>,
+    /// The first number out of its range.
+    beyond: Option<Bytes>,
+    /// The most brackets that stood open.
+    deepest: usize,
+}
+
+impl<'a> Model for Cursor<'a> {
+    ghost use Rattle.xs_script.specs.Input.{Input};
+
+    ghost Value = { Input };
+
+    ghost view = { λ c. record { rest = c.rest.now; scope = c.scope.now; unknown = c.unknown; beyond = c.beyond; deepest = c.deepest } };
+}
+
+/// What was met in a line that is at fault although the line has a reading.
+#[derive(Drop)]
+pub struct Met {
+    pub unknown: Option<Bytes>,
+    pub beyond: Option<Bytes>,
+    pub deepest: usize,
+}
+
+// The last byte of a mark.
+fn mark_byte(mark: Mark) -> u8
+    ensures { result ≡ spec.mark_byte mark }
+{
+    match mark {
+        Mark::Equals => b'=',
+        Mark::Arrow => b'>',
+        Mark::OpenRound => b'(',
+        Mark::CloseRound => b')',
+        Mark::OpenSquare => b'[',
+        Mark::CloseSquare => b']',
+        Mark::OpenCurly => b'{',
+        Mark::CloseCurly => b'}',
+        Mark::Comma => b',',
+        Mark::Semicolon => b';',
+        Mark::Backslash => b'\\',
+    }
+}
+
+fn is_mark(mark: Mark, token: &Token) -> bool
+    ensures { result ≡ spec.is_mark mark token.now }
+{
+    match token {
+        Token::Mark(other) => mark_byte(mark) == mark_byte(*other),
+        _ => false,
+    }
+}
+
+fn is_word(word: &[u8], token: &Token) -> bool
+    ensures { result ≡ spec.is_word word.now token.now }
+{
+    match token {
+        Token::Name(name) => name.as_slice() == word,
+        _ => false,
+    }
+}
+
+fn kind_of_token(token: &Token) -> Kind
+    ensures { result ≡ spec.kind_of_token token.now }
+{
+    match token {
+        Token::Name(_) => Kind::Name,
+        Token::Number(_) => Kind::Number,
+        Token::Text(_) => Kind::Text,
+        Token::Mark(_) => Kind::Mark,
+    }
+}
+
+impl<'a> Cursor<'a> {
+    pub fn new(rest: &'a [Token], scope: &'a Scope) -> Cursor<'a>
+        ensures { result ≡ spec.start_of scope.now rest.now }
+    {
+        Cursor {
+            rest,
+            scope,
+            unknown: None,
+            beyond: None,
+            deepest: 0,
+        }
+    }
+
+    /// What was met.
+    pub fn into_met(self) -> Met
+        ensures { spec.met self.entry ≡ result }
+    {
+        let Cursor {
+            rest: _,
+            scope: _,
+            unknown,
+            beyond,
+            deepest,
+        } = self;
+        Met {
+            unknown,
+            beyond,
+            deepest,
+        }
+    }
+
+    #[tactic(auto, unfolding(crate::specs::Input::left))]
+    pub fn left(&self) -> usize
+        ensures value { result ≡ spec.left self.now }
+        ensures few { result < 2 ^ 63 }
+    {
+        self.rest.len()
+    }
+
+    #[tactic(auto, unfolding(crate::specs::Input::kind_of))]
+    pub fn kind(&self) -> Kind
+        ensures { result ≡ spec.kind_of self.now }
+    {
+        match self.rest {
+            [] => Kind::End,
+            [first, ..] => kind_of_token(first),
+        }
+    }
+
+    /// What kind of part comes behind the next.
+    #[tactic(auto, unfolding(crate::specs::Input::kind_of, crate::specs::Input::next))]
+    pub fn kind_behind(&self) -> Kind
+        ensures { result ≡ spec.kind_of (spec.next self.now) }
+    {
+        match self.rest {
+            [] | [_] => Kind::End,
+            [_, second, ..] => kind_of_token(second),
+        }
+    }
+
+    #[tactic(auto, unfolding(crate::specs::Input::sees))]
+    pub fn sees(&self, mark: Mark) -> bool
+        ensures { result ≡ spec.sees mark self.now }
+    {
+        match self.rest {
+            [] => false,
+            [first, ..] => is_mark(mark, first),
+        }
+    }
+
+    #[tactic(auto, unfolding(crate::specs::Input::sees_word))]
+    pub fn sees_word(&self, word: &[u8]) -> bool
+        ensures { result ≡ spec.sees_word word.now self.now }
+    {
+        match self.rest {
+            [] => false,
+            [first, ..] => is_word(word, first),
+        }
+    }
+
+    /// Takes the next part, if there is one.
+    #[tactic(auto, unfolding(crate::specs::Input::next))]
+    pub fn skip(&mut self)
+        ensures { self.new ≡ spec.next self.old }
+    {
+        if let [_, rest @ ..] = self.rest {
+            self.rest = rest;
+        }
+    }
+
+    #[tactic(auto, unfolding(crate::specs::Input::after))]
+    pub fn eat(&mut self, mark: Mark) -> bool
+        ensures found { result ≡ spec.sees mark self.old }
+        ensures after { self.new ≡ spec.after mark self.old }
+    {
+        let found = self.sees(mark);
+        if found {
+            self.skip();
+        }
+        found
+    }
+
+    #[tactic(auto, unfolding(crate::specs::Input::after_word))]
+    pub fn eat_word(&mut self, word: &[u8]) -> bool
+        ensures found { result ≡ spec.sees_word word.now self.old }
+        ensures after { self.new ≡ spec.after_word word.now self.old }
+    {
+        let found = self.sees_word(word);
+        if found {
+            self.skip();
+        }
+        found
+    }
+
+    #[tactic(auto, unfolding(crate::specs::Input::expect))]
+    pub fn expect(&mut self, mark: Mark) -> Result<(), Stop>
+        ensures { Reads (λ u. u) (spec.expect mark self.old) result self.new }
+    {
+        if self.sees(mark) {
+            self.skip();
+            Ok(())
+        } else {
+            Err(Stop::Unread)
+        }
+    }
+
+    #[tactic(auto, unfolding(crate::specs::Input::name, crate::specs::Input::next))]
+    pub fn name(&mut self, alloc: Global) -> Result<Bytes, Stop>
+        ensures { Reads (λ b. b) (spec.name self.old) result self.new }
+    {
+        match self.rest {
+            [Token::Name(name), rest @ ..] => {
+                let copy = name.copy(alloc)?;
+                self.rest = rest;
+                Ok(copy)
+            }
+            _ => Err(Stop::Unread),
+        }
+    }
+
+    #[tactic(auto, unfolding(crate::specs::Input::number, crate::specs::Input::next))]
+    pub fn number(&mut self, alloc: Global) -> Result<Bytes, Stop>
+        ensures { Reads (λ b. b) (spec.number self.old) result self.new }
+    {
+        match self.rest {
+            [Token::Number(number), rest @ ..] => {
+                let copy = number.copy(alloc)?;
+                self.rest = rest;
+                Ok(copy)
+            }
+            _ => Err(Stop::Unread),
+        }
+    }
+
+    #[tactic(auto, unfolding(crate::specs::Input::text, crate::specs::Input::next))]
+    pub fn text(&mut self, alloc: Global) -> Result<Bytes, Stop>
+        ensures { Reads (λ b. b) (spec.text self.old) result self.new }
+    {
+        match self.rest {
+            [Token::Text(content), rest @ ..] => {
+                let copy = content.copy(alloc)?;
+                self.rest = rest;
+                Ok(copy)
+            }
+            _ => Err(Stop::Unread),
+        }
+    }
+
+    #[tactic(auto, unfolding(crate::specs::Input::sub_name, crate::specs::Input::next))]
+    pub fn sub_name(&mut self, alloc: Global) -> Result<Bytes, Stop>
+        ensures { Reads (λ b. b) (spec.sub_name self.old) result self.new }
+    {
+        match self.rest {
+            [Token::Name(name), rest @ ..] => {
+                let copy = name.copy(alloc)?;
+                self.rest = rest;
+                Ok(copy)
+            }
+            [Token::Text(content), rest @ ..] => {
+                let copy = content.copy(alloc)?;
+                self.rest = rest;
+                Ok(copy)
+            }
+            _ => Err(Stop::Unread),
+        }
+    }
+
+    /// A variable is named here.
+    #[tactic(auto, unfolding(crate::specs::Input::named))]
+    pub fn named(&mut self, alloc: Global, name: &[u8]) -> Result<(), Stop>
+        ensures { Reads (λ u. u) (spec.noted (spec.named name.now) self.old) result self.new }
+    {
+        if self.unknown.is_none() && !is_alive(self.scope, name) {
+            self.unknown = Some(Bytes::from_slice(alloc, name)?);
+        }
+        Ok(())
+    }
+
+    /// A number out of its range stands here.
+    #[tactic(auto, unfolding(crate::specs::Input::exceeded))]
+    pub fn exceeded(&mut self, number: Bytes)
+        ensures { self.new ≡ spec.exceeded number self.old }
+    {
+        if self.beyond.is_none() {
+            self.beyond = Some(number);
+        }
+    }
+
+    /// So many brackets stand open here.
+    #[tactic(auto, unfolding(crate::specs::Input::opened))]
+    pub fn opened(&mut self, brackets: usize)
+        ensures { self.new ≡ spec.opened brackets self.old }
+    {
+        self.deepest = self.deepest.max(brackets);
+    }
+}

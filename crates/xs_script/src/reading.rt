@@ -1,0 +1,206 @@
+//! Commands and actions, by their rules.
+ghost use Rattle.std.specs.Prelude.{◌≡◌, map};
+ghost use Rattle.xs_script.specs.Input.{Reads, ended};
+ghost use Rattle.xs_script.specs.Rules as spec;
+ghost use Rattle.xs_script.specs.View.{act, acts_of, exprs_in, plain, said};
+
+use crate::command::{Action, Command, E};
+use crate::cursor::Cursor;
+use crate::token::{Kind, Mark, Stop};
+use crate::value::{argument, value, variable};
+use std::alloc::Global;
+use xs_base::Bytes;
+
+#[tactic(auto, using(crate::proofs::Views::views), unfolding(crate::specs::Rules::some_arguments, crate::specs::Rules::arguments_from))]
+fn some_arguments(alloc: Global, cursor: &mut Cursor<'_>, in_sub: bool) -> Result<Vec<E>, Stop>
+    ensures { Reads exprs_in (spec.some_arguments in_sub cursor.old) result cursor.new }
+{
+    let mut all = Vec::new(alloc);
+    for _turn in 0..cursor.left() {
+        let e = value(alloc, cursor, in_sub)?;
+        all.push(e)?;
+        if !cursor.eat(Mark::Comma) {
+            cursor.expect(Mark::CloseRound)?;
+            return Ok(all);
+        }
+    }
+    Err(Stop::Unread)
+}
+
+/// The arguments of a call, with their parentheses.
+#[tactic(auto, unfolding(crate::specs::Rules::arguments))]
+fn arguments(alloc: Global, cursor: &mut Cursor<'_>, in_sub: bool) -> Result<Vec<E>, Stop>
+    ensures { Reads exprs_in (spec.arguments in_sub cursor.old) result cursor.new }
+{
+    cursor.expect(Mark::OpenRound)?;
+    if cursor.eat(Mark::CloseRound) {
+        Ok(Vec::new(alloc))
+    } else {
+        some_arguments(alloc, cursor, in_sub)
+    }
+}
+
+#[tactic(auto, unfolding(crate::specs::Rules::set_action))]
+fn set_action(alloc: Global, cursor: &mut Cursor<'_>) -> Result<Action, Stop>
+    ensures { Reads act (spec.set_action cursor.old) result cursor.new }
+{
+    let k = argument(alloc, cursor)?;
+    cursor.expect(Mark::Equals)?;
+    Ok(Action::Set(k, value(alloc, cursor, true)?))
+}
+
+#[tactic(auto, unfolding(crate::specs::Rules::call_action))]
+fn call_action(alloc: Global, cursor: &mut Cursor<'_>) -> Result<Action, Stop>
+    ensures { Reads act (spec.call_action cursor.old) result cursor.new }
+{
+    let sub = cursor.sub_name(alloc)?;
+    Ok(Action::Call(sub, arguments(alloc, cursor, true)?))
+}
+
+#[tactic(auto, unfolding(crate::specs::Rules::action))]
+fn action(alloc: Global, cursor: &mut Cursor<'_>) -> Result<Action, Stop>
+    ensures { Reads act (spec.action cursor.old) result cursor.new }
+{
+    if cursor.eat_word(b"push") {
+        Ok(Action::Push(value(alloc, cursor, true)?))
+    } else if cursor.eat_word(b"set") {
+        set_action(alloc, cursor)
+    } else if cursor.eat_word(b"call") {
+        call_action(alloc, cursor)
+    } else if cursor.eat_word(b"die") {
+        Ok(Action::Die(cursor.text(alloc)?))
+    } else {
+        Err(Stop::Unread)
+    }
+}
+
+/// The actions of a sub.
+#[tactic(auto, unfolding(crate::specs::Rules::actions, crate::specs::Rules::actions_from))]
+fn actions(alloc: Global, cursor: &mut Cursor<'_>) -> Result<Vec<Action>, Stop>
+    ensures { Reads acts_of (spec.actions cursor.old) result cursor.new }
+{
+    let mut all = Vec::new(alloc);
+    for _turn in 0..cursor.left() {
+        let a = action(alloc, cursor)?;
+        all.push(a)?;
+        if !cursor.eat(Mark::Semicolon) {
+            return Ok(all);
+        }
+    }
+    Err(Stop::Unread)
+}
+
+fn names_sub(kind: Kind) -> bool
+    ensures { result ≡ spec.names_sub kind }
+{
+    match kind {
+        Kind::Name | Kind::Text => true,
+        Kind::Number | Kind::Mark | Kind::End => false,
+    }
+}
+
+/// Whether a call comes next. The word `call` alone may be a variable.
+#[tactic(auto, unfolding(crate::specs::Rules::sees_call))]
+fn sees_call(cursor: &Cursor<'_>) -> bool
+    ensures { result ≡ spec.sees_call cursor.now }
+{
+    cursor.sees_word(b"call") && names_sub(cursor.kind_behind())
+}
+
+#[tactic(auto, unfolding(crate::specs::Rules::call_value))]
+fn call_value(
+    alloc: Global,
+    cursor: &mut Cursor<'_>,
+    line: u32,
+    name: Bytes,
+) -> Result<Command, Stop>
+    ensures { Reads said (spec.call_value line name cursor.old) result cursor.new }
+{
+    cursor.eat_word(b"call");
+    let sub = cursor.sub_name(alloc)?;
+    Ok(Command::MyCall(line, name, sub, arguments(alloc, cursor, false)?))
+}
+
+#[tactic(auto, unfolding(crate::specs::Rules::my_command))]
+fn my_command(alloc: Global, cursor: &mut Cursor<'_>, line: u32) -> Result<Command, Stop>
+    ensures { Reads said (spec.my_command line cursor.old) result cursor.new }
+{
+    let name = cursor.name(alloc)?;
+    cursor.expect(Mark::Equals)?;
+    if sees_call(cursor) {
+        call_value(alloc, cursor, line, name)
+    } else {
+        Ok(Command::My(line, name, value(alloc, cursor, false)?))
+    }
+}
+
+#[tactic(auto, unfolding(crate::specs::Rules::call_command))]
+fn call_command(alloc: Global, cursor: &mut Cursor<'_>, line: u32) -> Result<Command, Stop>
+    ensures { Reads said (spec.call_command line cursor.old) result cursor.new }
+{
+    let sub = cursor.sub_name(alloc)?;
+    Ok(Command::Call(line, sub, arguments(alloc, cursor, false)?))
+}
+
+#[tactic(auto, unfolding(crate::specs::Rules::isa_command))]
+fn isa_command(alloc: Global, cursor: &mut Cursor<'_>, line: u32) -> Result<Command, Stop>
+    ensures { Reads said (spec.isa_command line cursor.old) result cursor.new }
+{
+    let class = cursor.name(alloc)?;
+    let parent = cursor.name(alloc)?;
+    Ok(Command::Isa(line, class, parent))
+}
+
+#[tactic(auto, unfolding(crate::specs::Rules::sub_command))]
+fn sub_command(alloc: Global, cursor: &mut Cursor<'_>, line: u32) -> Result<Command, Stop>
+    ensures { Reads said (spec.sub_command line cursor.old) result cursor.new }
+{
+    let sub = cursor.sub_name(alloc)?;
+    cursor.expect(Mark::Equals)?;
+    Ok(Command::Sub(line, sub, actions(alloc, cursor)?))
+}
+
+/// The commands whose one part is a variable.
+#[tactic(auto, unfolding(crate::specs::Rules::variable_command))]
+fn variable_command(alloc: Global, cursor: &mut Cursor<'_>, line: u32) -> Result<Command, Stop>
+    ensures { Reads said (spec.variable_command line cursor.old) result cursor.new }
+{
+    if cursor.eat_word(b"ro") {
+        Ok(Command::Ro(line, variable(alloc, cursor)?))
+    } else if cursor.eat_word(b"show") {
+        Ok(Command::Show(line, variable(alloc, cursor)?))
+    } else if cursor.eat_word(b"drop") {
+        Ok(Command::Drop(line, variable(alloc, cursor)?))
+    } else {
+        Err(Stop::Unread)
+    }
+}
+
+#[tactic(auto, unfolding(crate::specs::Rules::by_word))]
+fn by_word(alloc: Global, cursor: &mut Cursor<'_>, line: u32) -> Result<Command, Stop>
+    ensures { Reads said (spec.by_word line cursor.old) result cursor.new }
+{
+    if cursor.eat_word(b"my") {
+        my_command(alloc, cursor, line)
+    } else if cursor.eat_word(b"call") {
+        call_command(alloc, cursor, line)
+    } else if cursor.eat_word(b"isa") {
+        isa_command(alloc, cursor, line)
+    } else if cursor.eat_word(b"sub") {
+        sub_command(alloc, cursor, line)
+    } else {
+        variable_command(alloc, cursor, line)
+    }
+}
+
+/// The command of a whole line.
+#[tactic(auto, unfolding(crate::specs::Rules::command, crate::specs::Rules::at_end))]
+pub fn command(alloc: Global, cursor: &mut Cursor<'_>, line: u32) -> Result<Command, Stop>
+    ensures { Reads said (spec.command line cursor.old) result cursor.new }
+{
+    let command = by_word(alloc, cursor, line)?;
+    match cursor.kind() {
+        Kind::End => Ok(command),
+        _ => Err(Stop::Unread),
+    }
+}

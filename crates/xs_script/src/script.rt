@@ -1,0 +1,190 @@
+//! Lines and scripts.
+ghost use Rattle.std.specs.Option.{option_copied, option_map};
+ghost use Rattle.std.specs.Prelude.{◌≡◌, ◌-◌, ◌<◌, ◌^◌, IfNone, IfOk, IfSome, OnOk, false, length};
+ghost use Rattle.xs_base.specs.Reading.{GivesBy};
+ghost use Rattle.xs_script.specs.Script as spec;
+ghost use Rattle.xs_script.specs.View.{said, said_all};
+
+use crate::command::Command;
+use crate::cursor::{Cursor, Met};
+use crate::lexing::{is_blank, tokens};
+use crate::reading::command;
+use crate::scope::{Scope, holds};
+use crate::token::Stop;
+use crate::value::MAX_NESTING;
+use std::alloc::Global;
+use xs_base::{Bytes, Fault, FileOf, Items, Line, Memory, Refuse, lines};
+
+/// How many commands a script may have.
+const MAX_COMMANDS: u32 = 10_000;
+
+/// How many variables a script may declare, dropped ones included.
+const MAX_VARIABLES: usize = 256;
+
+/// How many subs a script may declare.
+const MAX_SUBS: usize = 256;
+
+fn empty_scope(alloc: Global) -> Scope
+    ensures { result ≡ spec.empty_scope }
+{
+    Scope {
+        variables: Items::new(alloc),
+        dropped: Items::new(alloc),
+        subs: Items::new(alloc),
+        commands: 0,
+    }
+}
+
+// Takes what a command declares into the scope.
+fn enter(alloc: Global, scope: &mut Scope, command: &Command) -> Result<(), Memory>
+    requires { scope.old.commands < 10000 }
+    ensures { OnOk result (scope.new ≡ spec.behind (said command.now) scope.old) }
+{
+    match command {
+        Command::My(_, name, _) | Command::MyCall(_, name, _, _) => {
+            scope.variables.push(name.copy(alloc)?)?;
+        }
+        Command::Drop(_, name) => scope.dropped.push(name.copy(alloc)?)?,
+        Command::Sub(_, name, _) => scope.subs.push(name.copy(alloc)?)?,
+        _ => {}
+    }
+    scope.commands += 1;
+    Ok(())
+}
+
+// The variable or the sub of this command, if it was declared before.
+fn twice<'a>(scope: &Scope, command: &'a Command) -> Option<&'a Bytes>
+    ensures { option_copied result ≡ spec.twice scope.now (said command.now) }
+{
+    match command {
+        Command::My(_, name, _) | Command::MyCall(_, name, _, _)
+            if holds(&scope.variables, name.as_slice()) => { Some(name) }
+        Command::Sub(_, name, _) if holds(&scope.subs, name.as_slice()) => Some(name),
+        _ => None,
+    }
+}
+
+fn is_full(scope: &Scope, command: &Command) -> bool
+    ensures full { result ≡ spec.is_full scope.now (said command.now) }
+    ensures room { result ≡ false → scope.now.commands < 10000 }
+{
+    let is_over = match command {
+        Command::My(_, _, _) | Command::MyCall(_, _, _, _) => {
+            scope.variables.len() >= MAX_VARIABLES
+        }
+        Command::Sub(_, _, _) => scope.subs.len() >= MAX_SUBS,
+        _ => false,
+    };
+    is_over || scope.commands >= MAX_COMMANDS
+}
+
+fn fault(line: u32, code: u16, word: Bytes) -> Fault
+    ensures { result ≡ spec.fault line code word }
+{
+    Fault {
+        file: FileOf::Script,
+        line,
+        code,
+        word,
+    }
+}
+
+/// The fault of a line that has a reading: the one of the least code, and of these the leftmost.
+#[tactic(auto, unfolding(crate::specs::Script::first_fault))]
+fn first_fault(
+    alloc: Global,
+    scope: &Scope,
+    line: u32,
+    command: &Command,
+    met: Met,
+) -> Result<Option<Fault>, Memory>
+    ensures exact { IfOk result (λ found. found ≡ spec.first_fault scope.now line (said command.now) met) }
+    ensures room { IfOk result (λ found. IfNone found (scope.now.commands < 10000)) }
+{
+    let Met {
+        unknown,
+        beyond,
+        deepest,
+    } = met;
+    if let Some(name) = unknown {
+        return Ok(Some(fault(line, 952, name)));
+    }
+    if let Some(name) = twice(scope, command) {
+        return Ok(Some(fault(line, 953, name.copy(alloc)?)));
+    }
+    if let Some(number) = beyond {
+        return Ok(Some(fault(line, 954, number)));
+    }
+    if deepest > MAX_NESTING {
+        return Ok(Some(fault(line, 955, Bytes::new(alloc))));
+    }
+    if is_full(scope, command) {
+        return Ok(Some(fault(line, 956, Bytes::new(alloc))));
+    }
+    Ok(None)
+}
+
+/// Whether a line has no command: it is empty but for blanks, or a `#` stands behind its blanks.
+fn is_skipped(text: &[u8]) -> bool
+    ensures { result ≡ spec.is_skipped text.now }
+{
+    for b in text {
+        if !is_blank(*b) {
+            return *b == b'#';
+        }
+    }
+    true
+}
+
+/// The command of a line, if it has one, or its first fault.
+#[tactic(auto, unfolding(crate::specs::Script::line_of, crate::specs::Script::reading_of))]
+fn read_line(alloc: Global, scope: &Scope, line: &Line) -> Result<Option<Command>, Refuse>
+    ensures exact { GivesBy (option_map said) result (spec.line_of scope.now line.now) }
+    ensures room { IfOk result (λ found. IfSome found (λ _. scope.now.commands < 10000)) }
+{
+    if is_skipped(line.text.as_slice()) {
+        return Ok(None);
+    }
+    let (found, met) = match reading(alloc, scope, line) {
+        Ok(read) => read,
+        Err(Stop::Unread) => {
+            return Err(Refuse::Fault(fault(line.number, 951, Bytes::new(alloc))));
+        }
+        Err(Stop::Memory) => return Err(Refuse::Memory),
+    };
+    match first_fault(alloc, scope, line.number, &found, met)? {
+        Some(f) => Err(Refuse::Fault(f)),
+        None => Ok(Some(found)),
+    }
+}
+
+// The command that a line reads as, and what was met in it.
+#[tactic(auto, unfolding(crate::specs::Script::reading_of))]
+fn reading(alloc: Global, scope: &Scope, line: &Line) -> Result<(Command, Met), Stop>
+    ensures { spec.ReadsLine result (spec.reading_of scope.now line.now) }
+{
+    let parts = tokens(alloc, line.text.as_slice())?;
+    let mut cursor = Cursor::new(parts.as_slice(), scope);
+    let found = command(alloc, &mut cursor, line.number)?;
+    Ok((found, cursor.into_met()))
+}
+
+/// The commands of a script, in their order, or the first fault of the first line that has one: 951 where a line has no
+/// reading, 952 where a variable is not declared or was dropped, 953 where a variable or a sub is declared twice, 954 where
+/// a number is out of its range, 955 where brackets nest deeper than 16, and 956 where there are more than 10,000 commands,
+/// 256 variables or 256 subs. Empty lines and lines whose first byte behind blanks is `#` have no command.
+pub fn read_script(alloc: Global, src: &Bytes) -> Result<Vec<Command>, Refuse>
+    requires { length src.now < 2 ^ 32 - 1 }
+    ensures exact { GivesBy said_all result (spec.script_of src.now) }
+{
+    let all = lines(alloc, src)?;
+    let mut scope = empty_scope(alloc);
+    let mut out = Vec::new(alloc);
+    for line in all.as_slice() {
+        if let Some(found) = read_line(alloc, &scope, line)? {
+            enter(alloc, &mut scope, &found)?;
+            out.push(found)?;
+        }
+    }
+    Ok(out)
+}

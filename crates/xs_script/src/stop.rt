@@ -1,0 +1,31 @@
+//! Conversions into the one error of the readers of a line.
+ghost use Rattle.std.specs.Prelude.{◌≡◌};
+ghost use Rattle.xs_script.specs.declared.token.Stop.TheVariants as stop;
+
+use crate::token::Stop;
+use std::alloc::{AllocError, AllocFailed};
+use xs_base::Memory;
+
+impl From<Memory> for Stop {
+    ghost from_gives = { λ _ e. e ≡ stop.Memory };
+
+    fn from(_: Memory) -> Stop {
+        Stop::Memory
+    }
+}
+
+impl From<AllocError> for Stop {
+    ghost from_gives = { λ _ e. e ≡ stop.Memory };
+
+    fn from(_: AllocError) -> Stop {
+        Stop::Memory
+    }
+}
+
+impl<T: Drop> From<AllocFailed<T>> for Stop {
+    ghost from_gives = { λ _ e. e ≡ stop.Memory };
+
+    fn from(_: AllocFailed<T>) -> Stop {
+        Stop::Memory
+    }
+}
