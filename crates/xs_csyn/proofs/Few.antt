@@ -1,5 +1,5 @@
 -- A text has no more tokens than bytes.
-use Rattle.std.proofs.Common.{◌≡◌, ℕ, suc, ◌+◌, ◌≤◌, Bool, true, false, List, [], ◌∷◌, ◌++◌, length, map, Result, Ok, Err, refl, sym, ap, ◌∙◌, arith, length-append}
+use Rattle.std.proofs.Common.{◌≡◌, ℕ, suc, ◌+◌, ◌≤◌, Bool, true, false, List, [], ◌∷◌, ◌++◌, length, map, Result, Ok, Err, refl, sym, ap, arith, length-append}
 use Rattle.std.proofs.lemmas.List.{length-map}
 use Rattle.std.specs.Prelude.{Option, Some, None, if◌then◌else◌, ◌==◌, ◌&&◌}
 use Rattle.xs_base.specs.declared.fault.Fault.{Fault}
@@ -8,8 +8,8 @@ use Rattle.xs_csyn.specs.declared.state.Mode.{Mode}
 use Rattle.xs_csyn.specs.declared.state.Mode.TheVariants as mode
 use Rattle.xs_csyn.specs.declared.state.State.{State}
 use Rattle.xs_csyn.specs.declared.token.Token.{Token}
-use Rattle.xs_csyn.specs.Lexemes.{Lexeme, Word, Text, Sign, Bad, Moved, is_word_byte, is_double, begin, begun, moved, behind, in_comment, step, step_at, last, last_at, run, over, start, lexemes_of}
-use Rattle.xs_csyn.specs.Tokens.{token_of, with_front, before, all_of, tokens_of}
+use Rattle.xs_csyn.specs.Lexemes.{Lexeme, Word, Text, Sign, Bad, Moved, is_word_byte, is_double, begin, begun, moved, behind, in_comment, step, step_at, last, last_at, run, start, lexemes_of}
+use Rattle.xs_csyn.specs.Tokens.{token_of, with_front, all_of, tokens_of}
 
 -- how many lexemes a state may still give
 abbrev pending_at : Mode → ℕ

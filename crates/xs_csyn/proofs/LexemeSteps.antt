@@ -1,6 +1,5 @@
 -- How the tokens of a text go on, a byte at a time.
-use Rattle.std.proofs.Common.{◌≡◌, ℕ, suc, ◌+◌, ◌<◌, ◌≤◌, List, [], ◌∷◌, ◌++◌, length, get_or, drop, map, Result, Ok, Err, refl, sym, ap, ◌∙◌, arith, append_assoc}
-use Rattle.std.proofs.lemmas.List.{append-nil}
+use Rattle.std.proofs.Common.{◌≡◌, ℕ, suc, ◌+◌, ◌<◌, ◌≤◌, List, [], ◌∷◌, ◌++◌, length, get_or, drop, Result, Ok, Err, refl, sym, ap, ◌∙◌, arith, append_assoc}
 use Rattle.std.proofs.Math.Seq.{drop-cons}
 use Rattle.std.proofs.Math.ListN.{drop_of_length-le}
 use Rattle.xs_base.specs.declared.fault.Fault.{Fault}
@@ -11,7 +10,7 @@ use Rattle.xs_base.specs.Reading.{Fails}
 use Rattle.xs_csyn.specs.declared.state.State.{State}
 use Rattle.xs_csyn.specs.declared.token.Token.{Token}
 use Rattle.xs_csyn.specs.Lexemes.{Lexeme, step, last, run, over}
-use Rattle.xs_csyn.specs.Tokens.{token_of, with_front, before, all_of, tokens_in}
+use Rattle.xs_csyn.specs.Tokens.{token_of, with_front, before, tokens_in}
 
 -- tokens, and behind them others
 abbrev pub joined : Result (List Token) Fault → Result (List Token) Fault → Result (List Token) Fault

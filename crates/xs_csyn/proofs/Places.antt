@@ -1,5 +1,5 @@
 -- Which arguments make a place.
-use Rattle.std.proofs.Common.{◌≡◌, ℕ, ◌+◌, List, [], ◌∷◌, ◌++◌, length, map, Some, None, refl, arith}
+use Rattle.std.proofs.Common.{◌≡◌, ℕ, List, [], ◌∷◌, ◌++◌, length, map, Some, None, refl, arith}
 use Rattle.xs_csyn.specs.Tree.{ExprTree, StPlace, exprs_of}
 use Rattle.xs_csyn.specs.Exprs.{list_place}
 

@@ -6,8 +6,8 @@ use Rattle.std.specs.List.{list_all}
 use Rattle.xs_csyn.specs.declared.state.Mode.{Mode}
 use Rattle.xs_csyn.specs.declared.state.Mode.TheVariants as mode
 use Rattle.xs_csyn.specs.declared.state.State.{State}
-use Rattle.xs_csyn.specs.Lexemes.{Lexeme, Word, Text, Sign, Bad, Moved, is_word_byte, is_blank, is_sign_byte, is_double, is_doubled, goes_before_equals, begin, begun, moved, at_line, behind, step, run, in_comment}
-use Rattle.xs_csyn.specs.Pieces.{Piece, Plain, Name, Bare, spelled, IsName, IsBare, is_bare_byte, ArePieces, named, named_at, bared, bared_at, run_pieces}
+use Rattle.xs_csyn.specs.Lexemes.{Lexeme, Word, Text, Sign, Bad, Moved, is_word_byte, is_blank, is_sign_byte, is_double, is_doubled, goes_before_equals, begin, begun, moved, at_line, behind, step, run}
+use Rattle.xs_csyn.specs.Pieces.{Piece, Plain, Name, Bare, Blank, spelled, IsName, IsBare, IsBlank, is_bare_byte, ArePieces, named, named_at, bared, bared_at, blanked, blanked_at, run_pieces}
 
 pub behind-behind : (a b : List Lexeme) (m : Moved) → behind a (behind b m) ≡ behind (a ++ b) m
 behind-behind a b m = ap (λ all. record { state = m.state; lexemes = all }) (sym (append_assoc a b m.lexemes))
@@ -162,6 +162,41 @@ run_bare mode.Return line text h = refl
 run_bare (mode.Comment opened) line text h = refl
 run_bare (mode.Star opened) line text h = refl
 
+-- ---- blanks
+
+blank_is_no_word : (b : ℕ) (t : Bool) → is_word_byte b ≡ t → is_blank b ≡ true → is_word_byte b ≡ false
+blank_is_no_word b true e h = absurd (let no_blank : true ≡ false = sym h ∙ neither (b == 32) (b == 9) (not_this 32 refl b e) (not_this 9 refl b e) in cc)
+blank_is_no_word b false e h = e
+
+abbrev begin_when : Bool → Bool → ℕ → ℕ → Option State
+begin_when t u line b =
+    if t then Some (at_line line (mode.Word (b ∷ [])))
+    else if u then Some (at_line line mode.Between)
+    else if b == 10 then Some (at_line (line + 1) mode.Between)
+    else if b == 13 then Some (at_line line mode.Return)
+    else if b == 34 then Some (at_line line (mode.Text []))
+    else if is_sign_byte b then Some (at_line line (mode.Mark b))
+    else None
+
+stays_between : (line b : ℕ) → is_blank b ≡ true → begin line b ≡ Some (at_line line mode.Between)
+unfolding begin
+stays_between line b h = ap (λ t. begin_when t (is_blank b) line b) (blank_is_no_word b (is_word_byte b) refl h) ∙ ap (λ u. begin_when false u line b) h
+
+in_blanks : (line : ℕ) (blanks : List ℕ) → list_all is_blank blanks ≡ true → run (at_line line mode.Between) blanks ≡ moved line mode.Between
+in_blanks line [] h = refl
+in_blanks line (b ∷ bs) h =
+    let p = both (is_blank b) (list_all is_blank bs) h in
+    ap (λ (o : Option State). behind (begun line o).lexemes (run (begun line o).state bs)) (stays_between line b p.0) ∙ in_blanks line bs p.1
+
+pub run_blanks : (m : Mode) (line : ℕ) (blanks : List ℕ) → IsBlank blanks → run (at_line line m) blanks ≡ blanked_at m line blanks
+run_blanks mode.Between line blanks h = in_blanks line blanks h.bytes
+run_blanks (mode.Word word) line blanks h = refl
+run_blanks (mode.Text text) line blanks h = refl
+run_blanks (mode.Mark a) line blanks h = refl
+run_blanks mode.Return line blanks h = refl
+run_blanks (mode.Comment opened) line blanks h = refl
+run_blanks (mode.Star opened) line blanks h = refl
+
 -- A text in pieces is read without a look into its names.
 pub run-spelled : (s : State) (ps : List Piece) → ArePieces ps → run s (spelled ps) ≡ run_pieces s ps
 unfolding spelled
@@ -173,6 +208,9 @@ run-spelled s (Name name ∷ ps) h =
 run-spelled s (Bare text ∷ ps) h =
     run-append s text (spelled ps) ∙ ap (λ (m : Moved). behind m.lexemes (run m.state (spelled ps))) (run_bare s.mode s.line text h.0)
     ∙ ap (behind (bared s text).lexemes) (run-spelled (bared s text).state ps h.1)
+run-spelled s (Blank blanks ∷ ps) h =
+    run-append s blanks (spelled ps) ∙ ap (λ (m : Moved). behind m.lexemes (run m.state (spelled ps))) (run_blanks s.mode s.line blanks h.0)
+    ∙ ap (behind (blanked s blanks).lexemes) (run-spelled (blanked s blanks).state ps h.1)
 
 pub run_spelled_law : (s : State) (ps : List Piece) → ArePieces ps → run s (spelled ps) ≡ run_pieces s ps
 run_spelled_law = run-spelled

@@ -1,17 +1,18 @@
 -- The value of digits, and the sorts of words.
-use Rattle.std.proofs.Common.{◌≡◌, ℕ, zero, suc, ◌+◌, ◌*◌, ◌-◌, ◌/◌, ◌%◌, ◌^◌, ◌<◌, ◌≤◌, Bool, true, false, not, ◌&&◌, ◌||◌, List, [], ◌∷◌, ◌++◌, length, get_or, drop, fold, refl, sym, ap, subst, ◌∙◌, arith}
-use Rattle.std.specs.Prelude.{Option, Some, None, nat_lt, if◌then◌else◌}
+use Rattle.std.proofs.Common.{◌≡◌, ℕ, zero, suc, ◌+◌, ◌*◌, ◌-◌, ◌%◌, ◌^◌, ◌<◌, ◌≤◌, Bool, true, false, not, ◌&&◌, ◌||◌, List, [], ◌∷◌, ◌++◌, length, get_or, drop, fold, refl, sym, ap, ◌∙◌, arith}
+use Rattle.std.specs.Prelude.{Some, None, ◌==◌, nat_le, nat_lt, if◌then◌else◌}
 use Rattle.std.specs.Fmt.{decimal}
 use Rattle.std.specs.List.{list_all}
+use Rattle.std.specs.Str.{bytes_eq}
 use Rattle.std.proofs.Math.Seq.{drop-cons}
 use Rattle.std.proofs.lemmas.Bool.Decides.{nat_tests}
 use Rattle.std.proofs.lemmas.Fmt.{decimal_by_steps, decimal_digit, first_decimal}
 use Rattle.std.proofs.lemmas.List.Sums.{fold-append}
-use Rattle.xs_csyn.specs.declared.token.Sort.{Sort}
+use Rattle.std.proofs.lemmas.Slice.Eq.{bytes_eq-Decides}
 use Rattle.xs_csyn.specs.declared.token.Sort.TheVariants as sort
 use Rattle.xs_csyn.specs.Lexemes.{is_digit, is_word_byte}
 use Rattle.xs_csyn.specs.Pieces.{IsName}
-use Rattle.xs_csyn.specs.Words.{begins, value_of, has_leading_zero, is_decimal, sort_value, sort_word, is_key_word}
+use Rattle.xs_csyn.specs.Words.{begins, value_of, has_leading_zero, is_decimal, sort_value, sort_word, is_key_word, is_among}
 
 abbrev pub digit_step : ℕ → ℕ → ℕ
 digit_step n b = 10 * n + (b - 48)
@@ -49,7 +50,7 @@ begins-append p (x ∷ xs) ys h = h
 
 decimal_digits : (n : ℕ) → n < 2 ^ 64 → AreDigits n (decimal n)
 decimal_digits = decimal_by_steps AreDigits
-    (λ n h. record { all = ap (λ b. b && true) (digit_is n h); value = omega arith; some = digit_is n h; })
+    (λ n h. record { all = ap (λ b. b && true) (digit_is n h); value = omega arith; some = digit_is n h })
     (λ n ds h d. record {
       all = list_all-append is_digit ds ((48 + n % 10) ∷ []) d.all (ap (λ b. b && true) (digit_is (n % 10) (omega arith)));
       value = fold-append (λ m b. 10 * m + (b - 48)) 0 ds ((48 + n % 10) ∷ []) ∙ omega (arith, d.value);
@@ -69,9 +70,9 @@ below_limit : (n : ℕ) → n < 2 ^ 64 → nat_lt n (2 ^ 64) ≡ true
 below_limit n h = grind (arith, nat_tests)
 
 -- What a number below 2 ^ 64 is written as is one word, with that value.
-pub sort_word-decimal : (n : ℕ) → n < 2 ^ 64 → sort_word (decimal n) ≡ Some (sort.Numeral n)
+pub sort_word_decimal : (n : ℕ) → n < 2 ^ 64 → sort_word (decimal n) ≡ Some (sort.Numeral n)
 unfolding sort_word
-sort_word-decimal n h =
+sort_word_decimal n h =
     let d = decimal_digits n h in
     let whole : is_decimal (decimal n) ≡ true = ap (λ b. b && not (has_leading_zero (decimal n))) d.all ∙ ap not (decimal_leads n h) in
     ap (λ b. if b then (if is_decimal (decimal n) then sort_value (value_of (decimal n)) else Some sort.OtherNumeral) else if is_key_word (decimal n) then Some sort.Key else Some sort.Name) d.some
@@ -80,20 +81,20 @@ sort_word-decimal n h =
     ∙ ap (λ b. if b then Some (sort.Numeral n) else None) (below_limit n h)
 
 -- A word that begins with no digit and has no meaning of its own is a name.
-pub sort_word-name : (name : List ℕ) → begins is_digit name ≡ false → is_key_word name ≡ false → sort_word name ≡ Some sort.Name
+pub sort_word_name : (name : List ℕ) → begins is_digit name ≡ false → is_key_word name ≡ false → sort_word name ≡ Some sort.Name
 unfolding sort_word
-sort_word-name name d k =
+sort_word_name name d k =
     ap (λ b. if b then (if is_decimal name then sort_value (value_of name) else Some sort.OtherNumeral) else if is_key_word name then Some sort.Key else Some sort.Name) d
     ∙ ap (λ b. if b then Some sort.Key else Some sort.Name) k
 
-in_the_middle : (a b c d : Bool) → c ≡ true → (a || (b || (c || d))) ≡ true
+in_the_middle : (a b c d : Bool) → c ≡ true → (((a || b) || c) || d) ≡ true
 in_the_middle true b c d h = refl
 in_the_middle false true c d h = refl
 in_the_middle false false true d h = refl
 in_the_middle false false false d h = absurd cc
 
 digit_in_word : (b : ℕ) → is_digit b ≡ true → is_word_byte b ≡ true
-digit_in_word b h = in_the_middle _ _ (is_digit b) _ h
+digit_in_word b h = in_the_middle (nat_le 65 b && nat_le b 90) (nat_le 97 b && nat_le b 122) (is_digit b) (b == 95) h
 
 digits_in_word : (ds : List ℕ) → list_all is_digit ds ≡ true → list_all is_word_byte ds ≡ true
 digits_in_word [] h = refl
@@ -105,7 +106,23 @@ digits_in_word (d ∷ ds) h = by (is_digit d) refl h (digits_in_word ds)
 
 as_name : (ds : List ℕ) → list_all is_digit ds ≡ true → begins is_digit ds ≡ true → IsName ds
 as_name [] h b = absurd cc
-as_name (d ∷ ds) h b = record { head = d; tail = ds; is = refl; bytes = digits_in_word (d ∷ ds) h; }
+as_name (d ∷ ds) h b = record { head = d; tail = ds; is = refl; bytes = digits_in_word (d ∷ ds) h }
 
-pub IsName-decimal : (n : ℕ) → n < 2 ^ 64 → IsName (decimal n)
-IsName-decimal n h = let d = decimal_digits n h in as_name (decimal n) d.all d.some
+pub is_name_decimal : (n : ℕ) → n < 2 ^ 64 → IsName (decimal n)
+is_name_decimal n h = let d = decimal_digits n h in as_name (decimal n) d.all d.some
+
+-- ---- lists of words
+
+is_among-true : (words : List (List ℕ)) (a b : List ℕ) → bytes_eq a b ≡ true → is_among words b ≡ is_among words a
+is_among-true words a b e = ap (is_among words) (sym ((bytes_eq-Decides a b).0 e))
+
+-- A word that is not in a list is in no list whose words are all in that one.
+pub is_among-fewer : (all fewer : List (List ℕ)) (word : List ℕ) → list_all (is_among all) fewer ≡ true → is_among all word ≡ false → is_among fewer word ≡ false
+is_among-fewer all [] word h none = refl
+is_among-fewer all (w ∷ ws) word h none = by (is_among all w) refl h (bytes_eq w word) refl (is_among-fewer all ws word)
+  where
+    by : (t : Bool) → is_among all w ≡ t → (t && list_all (is_among all) ws) ≡ true → (b : Bool) → bytes_eq w word ≡ b
+        → (list_all (is_among all) ws ≡ true → is_among all word ≡ false → is_among ws word ≡ false) → (b || is_among ws word) ≡ false
+    by true e more true same ih = absurd (let no_more : true ≡ false = sym e ∙ sym (is_among-true all w word same) ∙ none in cc)
+    by true e more false same ih = ih more none
+    by false e more b same ih = absurd cc

@@ -1,5 +1,5 @@
 -- Expressions. Each rule takes, as `inner`, the expressions that stand one level down.
-use Rattle.std.specs.Prelude.{ℕ, zero, suc, ◌+◌, Bool, if◌then◌else◌, nat_lt, max, List, [], ◌∷◌, ◌++◌, length, Option, Some, None, codes}
+use Rattle.std.specs.Prelude.{ℕ, zero, suc, ◌+◌, if◌then◌else◌, nat_lt, max, List, [], ◌∷◌, ◌++◌, Option, Some, None, codes}
 use Rattle.std.specs.Str.{bytes_eq}
 use Rattle.xs_csyn.specs.declared.node.Level.{Level}
 use Rattle.xs_csyn.specs.declared.node.Level.TheVariants as level
@@ -10,7 +10,7 @@ use Rattle.xs_csyn.specs.declared.tree.BinaryOp.{BinaryOp}
 use Rattle.xs_csyn.specs.declared.tree.BinaryOp.TheVariants as op
 use Rattle.xs_csyn.specs.declared.tree.CType.{CType}
 use Rattle.xs_csyn.specs.Tree.{ExprTree, Var, Num, Str, Call, Set, Two, Cast, ExprTrees, NoExprs, MoreExprs, PlaceTree, VarPlace, StPlace, exprs_of}
-use Rattle.xs_csyn.specs.Input.{Input, Reader, ◌>>=◌, ◌>>◌, ◌<$>◌, pure, refuse, too_deep, peek, here, take_token, eat, expect, sees, sees_name, left, next, is_sign, a_type_word}
+use Rattle.xs_csyn.specs.Input.{Input, Reader, ◌>>=◌, ◌>>◌, ◌<$>◌, pure, refuse, too_deep, peek, here, take_token, eat, expect, sees, sees_name, left, is_sign, a_type_word}
 
 -- a tree, and how many nodes its longest way down has
 pub record Found : Type 0 where

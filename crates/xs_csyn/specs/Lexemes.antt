@@ -1,6 +1,5 @@
 -- A C text as a machine reads it, a byte at a time.
-use Rattle.std.specs.Prelude.{ℕ, ◌+◌, Bool, ◌==◌, ◌&&◌, ◌||◌, nat_le, List, [], ◌∷◌, ◌++◌, if◌then◌else◌, Option, Some, None, codes}
-use Rattle.std.specs.List.{list_any}
+use Rattle.std.specs.Prelude.{ℕ, ◌+◌, Bool, ◌==◌, ◌&&◌, ◌||◌, nat_le, List, [], ◌∷◌, ◌++◌, if◌then◌else◌, Option, Some, None}
 use Rattle.xs_csyn.specs.declared.state.Mode.{Mode}
 use Rattle.xs_csyn.specs.declared.state.Mode.TheVariants as mode
 use Rattle.xs_csyn.specs.declared.state.State.{State}
@@ -16,7 +15,7 @@ abbrev pub is_digit : ℕ → Bool
 is_digit b = nat_le 48 b && nat_le b 57
 
 abbrev pub is_word_byte : ℕ → Bool
-is_word_byte b = (nat_le 97 b && nat_le b 122) || ((nat_le 65 b && nat_le b 90) || (is_digit b || (b == 95)))
+is_word_byte b = (nat_le 65 b && nat_le b 90) || (nat_le 97 b && nat_le b 122) || is_digit b || (b == 95)
 
 -- a space or a tab
 abbrev pub is_blank : ℕ → Bool

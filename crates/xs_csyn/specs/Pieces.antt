@@ -1,21 +1,23 @@
--- A text in pieces: what is written as it stands, names, and parts of a text in quotes.
-use Rattle.std.specs.Prelude.{◌≡◌, ℕ, Bool, true, not, ◌==◌, ◌&&◌, ◌||◌, List, [], ◌∷◌, ◌++◌}
+-- A text in pieces: what is written as it stands, names, parts of a text in quotes, and blanks.
+use Rattle.std.specs.Prelude.{◌≡◌, ℕ, Bool, true, not, ◌==◌, ◌||◌, List, [], ◌∷◌, ◌++◌}
 use Rattle.std.specs.List.{list_all}
 use Rattle.xs_csyn.specs.declared.state.Mode.{Mode}
 use Rattle.xs_csyn.specs.declared.state.Mode.TheVariants as mode
 use Rattle.xs_csyn.specs.declared.state.State.{State}
-use Rattle.xs_csyn.specs.Lexemes.{Word, Sign, Bad, Moved, is_word_byte, moved, behind, at_line, run}
+use Rattle.xs_csyn.specs.Lexemes.{Sign, Moved, is_word_byte, is_blank, moved, behind, at_line, run}
 
 pub data Piece : Type 0 where
   Plain : List ℕ → Piece
   Name : List ℕ → Piece
   Bare : List ℕ → Piece
+  Blank : List ℕ → Piece
 
 unfoldable pub spelled : List Piece → List ℕ
 spelled [] = []
 spelled (Plain bytes ∷ ps) = bytes ++ spelled ps
 spelled (Name name ∷ ps) = name ++ spelled ps
 spelled (Bare text ∷ ps) = text ++ spelled ps
+spelled (Blank blanks ∷ ps) = blanks ++ spelled ps
 
 -- a name is one or more bytes of a word
 pub record IsName (name : List ℕ) : Type 0 where
@@ -31,12 +33,17 @@ is_bare_byte b = not (b == 10 || (b == 34 || b == 92))
 pub record IsBare (text : List ℕ) : Type 0 where
   pub bytes : list_all is_bare_byte text ≡ true
 
--- names and parts of texts are such
+-- spaces and tabs, or nothing
+pub record IsBlank (blanks : List ℕ) : Type 0 where
+  pub bytes : list_all is_blank blanks ≡ true
+
+-- names, parts of texts and blanks are such
 abbrev pub ArePieces : List Piece → Type 0
 ArePieces [] = Unit {0}
 ArePieces (Plain bytes ∷ ps) = ArePieces ps
 ArePieces (Name name ∷ ps) = IsName name × ArePieces ps
 ArePieces (Bare text ∷ ps) = IsBare text × ArePieces ps
+ArePieces (Blank blanks ∷ ps) = IsBlank blanks × ArePieces ps
 
 -- what a name does to the machine
 abbrev pub named_at : Mode → ℕ → List ℕ → Moved
@@ -51,11 +58,19 @@ abbrev pub bared_at : Mode → ℕ → List ℕ → Moved
 bared_at (mode.Text text) line bare = moved line (mode.Text (text ++ bare))
 bared_at m line bare = run (at_line line m) bare
 
+-- what blanks do
+abbrev pub blanked_at : Mode → ℕ → List ℕ → Moved
+blanked_at mode.Between line blanks = moved line mode.Between
+blanked_at m line blanks = run (at_line line m) blanks
+
 abbrev pub named : State → List ℕ → Moved
 named s name = named_at s.mode s.line name
 
 abbrev pub bared : State → List ℕ → Moved
 bared s bare = bared_at s.mode s.line bare
+
+abbrev pub blanked : State → List ℕ → Moved
+blanked s blanks = blanked_at s.mode s.line blanks
 
 -- the moves over a text in pieces, in which no name is looked into
 abbrev pub run_pieces : State → List Piece → Moved
@@ -63,3 +78,4 @@ run_pieces s [] = record { state = s; lexemes = [] }
 run_pieces s (Plain bytes ∷ ps) = behind (run s bytes).lexemes (run_pieces (run s bytes).state ps)
 run_pieces s (Name name ∷ ps) = behind (named s name).lexemes (run_pieces (named s name).state ps)
 run_pieces s (Bare text ∷ ps) = behind (bared s text).lexemes (run_pieces (bared s text).state ps)
+run_pieces s (Blank blanks ∷ ps) = behind (blanked s blanks).lexemes (run_pieces (blanked s blanks).state ps)

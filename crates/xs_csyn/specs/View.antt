@@ -1,5 +1,5 @@
 -- The trees of the program as plain data.
-use Rattle.std.specs.Prelude.{ℕ, List, [], ◌∷◌, map}
+use Rattle.std.specs.Prelude.{List, map}
 use Rattle.std.specs.declared.alloc.Global.{Global}
 use Rattle.std.specs.declared.vec.Vec.{Vec}
 use Rattle.xs_csyn.specs.declared.tree.Expr.{Expr}

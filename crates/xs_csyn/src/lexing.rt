@@ -18,7 +18,7 @@ use xs_base::{Bytes, Fault, FileOf, Items, Refuse};
 fn is_word_byte(b: u8) -> bool
     ensures { result ≡ spec.is_word_byte b }
 {
-    b'a' <= b && b <= b'z' || b'A' <= b && b <= b'Z' || is_digit(b) || b == b'_'
+    b'A' <= b && b <= b'Z' || b'a' <= b && b <= b'z' || is_digit(b) || b == b'_'
 }
 
 fn is_blank(b: u8) -> bool

@@ -5,6 +5,7 @@ mod building;
 mod cursor;
 mod exprs;
 mod file;
+mod laws;
 mod lexing;
 mod node;
 mod state;
@@ -16,4 +17,5 @@ mod tree;
 mod words;
 
 pub use file::read_file;
+pub use laws::{pieces_law, words_law};
 pub use tree::{BinaryOp, CFile, CType, Expr, FileItem, PerlForm, Place, Stmt, XsFun};

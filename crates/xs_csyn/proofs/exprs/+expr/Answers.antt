@@ -1,4 +1,4 @@
-use Rattle.std.proofs.Common.{rules, arith, ap, ◌≡◌, suc, ◌-◌, ◌+◌}
+use Rattle.std.proofs.Common.{rules, arith, ap}
 use Rattle.std.proofs.lemmas.Grind.{common_steps}
 use Rattle.xs_csyn.specs.View.{found, found_all}
 use Rattle.xs_csyn.specs.Exprs.{Found, FoundAll, expr, climb, list_from}

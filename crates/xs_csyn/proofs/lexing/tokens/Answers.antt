@@ -1,4 +1,4 @@
-use Rattle.std.proofs.Common.{◌≡◌, ◌∙◌, ◌+◌, ap, sym, drop, get_or, arith}
+use Rattle.std.proofs.Common.{◌∙◌, ◌+◌, ap, sym, drop, get_or, arith}
 use Rattle.std.proofs.lemmas.Result.{err_from_is_err_and}
 use Rattle.xs_csyn.specs.Lexemes.{step}
 use Rattle.xs_csyn.specs.Tokens.{with_front, tokens_of, tokens_in}

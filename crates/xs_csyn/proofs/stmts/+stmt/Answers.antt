@@ -1,4 +1,4 @@
-use Rattle.std.proofs.Common.{rules, arith, sym, ◌∙◌, ◌≡◌, true, false, suc, ◌-◌, ◌+◌}
+use Rattle.std.proofs.Common.{rules, arith, sym, ◌∙◌, ◌≡◌, true, false}
 use Rattle.std.specs.Prelude.{codes}
 use Rattle.std.proofs.lemmas.Grind.{common_steps}
 use Rattle.xs_csyn.specs.Input.{sees, sees_key}

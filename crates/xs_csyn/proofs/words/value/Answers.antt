@@ -1,4 +1,4 @@
-use Rattle.std.proofs.Common.{◌≡◌, ◌≤◌, ◌+◌, ◌*◌, ◌-◌, ◌^◌, arith}
+use Rattle.std.proofs.Common.{◌^◌, arith}
 use Rattle.xs_csyn.proofs.Values.{too_wide}
 use Rattle.xs_csyn.proofs.words.value.Goals as goal
 

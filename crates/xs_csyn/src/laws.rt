@@ -1,0 +1,23 @@
+//! Laws of the definitions, for all texts.
+
+ghost use Rattle.std.specs.Fmt.{decimal};
+ghost use Rattle.std.specs.Prelude.{◌≡◌, ◌^◌, ◌<◌, List, Some, false, ℕ};
+ghost use Rattle.xs_csyn.specs.Lexemes.{is_digit, run};
+ghost use Rattle.xs_csyn.specs.Pieces.{ArePieces, IsName, Piece, run_pieces, spelled};
+ghost use Rattle.xs_csyn.specs.Words.{begins, is_key_word, sort_word};
+ghost use Rattle.xs_csyn.specs.declared.state.State.{State};
+ghost use Rattle.xs_csyn.specs.declared.token.Sort.TheVariants as sort;
+
+/// A text in pieces is cut into tokens without a look into its names, its parts of texts in quotes and its blanks.
+#[tactic(auto, using(crate::proofs::Running::run_spelled_law))]
+pub fn pieces_law()
+    ensures { (s : State) (ps : List Piece) → ArePieces ps → run s (spelled ps) ≡ run_pieces s ps }
+{}
+
+/// What a number is written as is one word with that value, and a word without a meaning of its own is a name.
+#[tactic(auto, using(crate::proofs::Values::sort_word_decimal, crate::proofs::Values::is_name_decimal, crate::proofs::Values::sort_word_name))]
+pub fn words_law()
+    ensures number { (n : ℕ) → n < 2 ^ 64 → sort_word (decimal n) ≡ Some (sort.Numeral n) }
+    ensures digits { (n : ℕ) → n < 2 ^ 64 → IsName (decimal n) }
+    ensures name { (word : List ℕ) → begins is_digit word ≡ false → is_key_word word ≡ false → sort_word word ≡ Some sort.Name }
+{}
