@@ -1,0 +1,15 @@
+pub mod Arguments
+pub mod Joining
+pub mod Numbers
+pub mod Statements
+pub mod Scalars
+pub mod Bodies
+pub mod Calling
+pub mod Temporaries
+pub mod Shown
+pub mod Commands
+pub mod Pairs
+pub mod Every
+pub mod Whole
+pub mod Reading
+pub mod Join

@@ -7,7 +7,7 @@ use Rattle.xs_base.specs.declared.place.FileOf.TheVariants.{Script}
 use Rattle.xs_call.specs.declared.calls.CallCommand.{CallCommand}
 use Rattle.xs_iface.specs.declared.first_form.TheConstants.{NOT_BUILT}
 use Rattle.xs_script.specs.Expr.{Expr, Num, Said, My, MyCall, Ro, CallSub, Show, Drop, Isa, Sub}
-use Rattle.xs_script.specs.declared.command.Number.TheVariants.{Int, Uns}
+use Rattle.xs_script.specs.declared.command.Number.TheVariants.{Int}
 
 -- the number that an expression is, if it is one that an IV holds
 abbrev pub int_of : Expr → Option ℤ

@@ -1,6 +1,6 @@
 -- The declared meaning: what each command of a script does, by the interface alone. No glue text is read here, nothing is counted, and
 -- there are no temporaries.
-use Rattle.std.specs.Prelude.{ℤ, pos, ℕ, ◌+◌, ◌==◌, nat_le, Bool, true, false, not, List, [], ◌∷◌, ◌++◌, map, length, slice_index_or, slice_get, codes, Option, None, Some, Result, Ok, Err, if◌then◌else◌}
+use Rattle.std.specs.Prelude.{ℤ, pos, ℕ, ◌+◌, ◌==◌, nat_le, Bool, List, [], ◌∷◌, ◌++◌, map, length, slice_index_or, codes, Option, None, Some, Result, Ok, Err, if◌then◌else◌}
 use Rattle.std.specs.Str.{bytes_eq}
 use Rattle.xs_call.specs.declared.calls.CallCommand.{CallCommand}
 use Rattle.xs_call.specs.Transcript.{CallEnd, Returned, Croaked, Trapped, Spent, call_text, end_lines, live_line, own_trap_text}

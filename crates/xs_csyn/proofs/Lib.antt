@@ -6,3 +6,7 @@ pub mod LexemeSteps
 pub mod Values
 pub mod Views
 pub mod Running
+pub mod Sound
+pub mod SoundFiles
+pub mod Complete
+pub mod CompleteFiles

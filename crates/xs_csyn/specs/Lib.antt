@@ -8,3 +8,5 @@ pub mod Input
 pub mod Exprs
 pub mod Stmts
 pub mod Files
+pub mod Grammar
+pub mod Heights

@@ -1,10 +1,14 @@
 //! C text is read as a file.
 
-ghost use Rattle.std.specs.Prelude.{◌≡◌, ◌-◌, ◌^◌, ◌<◌, IfOk, length};
+ghost use Rattle.std.specs.Prelude.{◌≡◌, ◌-◌, ◌^◌, ◌<◌, IfOk, List, Ok, length};
 ghost use Rattle.xs_base.specs.Reading.{GivesBy};
 ghost use Rattle.xs_csyn.specs.Files as spec;
+ghost use Rattle.xs_csyn.specs.Grammar.{IsTextOf};
+ghost use Rattle.xs_csyn.specs.Heights.{AreWithin};
 ghost use Rattle.xs_csyn.specs.Input.{Reads};
+ghost use Rattle.xs_csyn.specs.Tree.{ItemTree};
 ghost use Rattle.xs_csyn.specs.View.{file_tree, function_tree, item_trees};
+ghost use Rattle.xs_values.specs.declared.model.DataModel.TheVariants as model;
 
 use crate::cursor::Cursor;
 use crate::lexing::tokens;
@@ -84,16 +88,8 @@ fn last_line(alloc: Global, src: &Bytes) -> Result<u32, Memory>
     Ok(last_of(all.as_slice()))
 }
 
-/// Reads a C text by the grammar of the glue: XS functions with declarations of `int`, `IV` and `SV`, expressions of names,
-/// integers, texts, calls, casts, assignments, `+` and `!=`, blocks, `if`, and three words of the XS interface (perlxs).
-///
-/// The first fault is told where there is one. Faults of tokens go first, in their order: 701 for a byte that may not stand
-/// where it does, 702 for a text or comment that does not end, on the line where it begins, 703 for an integer of more than
-/// 64 bits. Else it is 704 at the first token with no reading, or 705 where statements or an expression stand more than 64
-/// deep: at the first token of what stands too deep, or at the operator that would push its left operand too deep. At the
-/// early end of the text the line is the last that is not empty, or 1.
 #[tactic(auto, using(crate::proofs::Few::tokens_few), unfolding(crate::specs::Files::file_of, crate::specs::Files::tree_of))]
-pub fn read_file(alloc: Global, src: &Bytes, file: FileOf) -> Result<CFile, Refuse>
+fn read_exactly(alloc: Global, src: &Bytes, file: FileOf) -> Result<CFile, Refuse>
     requires { length src.now < 2 ^ 32 - 1 }
     ensures { GivesBy file_tree result (spec.file_of file src.now) }
 {
@@ -105,4 +101,27 @@ pub fn read_file(alloc: Global, src: &Bytes, file: FileOf) -> Result<CFile, Refu
         model: DataModel::Lp64,
         items,
     })
+}
+
+/// Reads a C text by the grammar of the glue: XS functions with declarations of `int`, `IV` and `SV`, expressions of names,
+/// integers, texts, calls, casts, assignments, `+` and `!=`, blocks, `if`, and three words of the XS interface (perlxs).
+///
+/// The first fault is told where there is one. Faults of tokens go first, in their order: 701 for a byte that may not stand
+/// where it does, 702 for a text or comment that does not end, on the line where it begins, 703 for an integer of more than
+/// 64 bits. Else it is 704 at the first token with no reading, or 705 where statements or an expression stand more than 64
+/// deep: at the first token of what stands too deep, or at the operator that would push its left operand too deep. At the
+/// early end of the text the line is the last that is not empty, or 1.
+pub fn read_file(alloc: Global, src: &Bytes, file: FileOf) -> Result<CFile, Refuse>
+    requires { length src.now < 2 ^ 32 - 1 }
+
+    // Which tree or which fault it is.
+    ensures exact { GivesBy file_tree result (spec.file_of file src.now) }
+
+    // What is read is a file by the rules of the grammar.
+    ensures sound { IfOk result (λ f. IsTextOf file src.now (file_tree f).items) }
+
+    // What is a file by those rules, and nowhere too deep, is read as that file.
+    ensures complete { (all : List ItemTree) → IsTextOf file src.now all → AreWithin all → GivesBy file_tree result (Ok (record { model = model.Lp64; items = all })) }
+{
+    read_exactly(alloc, src, file)
 }

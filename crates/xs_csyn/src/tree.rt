@@ -21,7 +21,7 @@ pub struct CType {
 
 /// An expression.
 #[cycle(tree)]
-#[derive(Drop)]
+#[derive(Debug, Drop)]
 pub enum Expr {
     /// A name that stands for a value.
     Name(u32, Bytes),
@@ -41,7 +41,7 @@ pub enum Expr {
 
 /// What can be assigned to.
 #[cycle(tree)]
-#[derive(Drop)]
+#[derive(Debug, Drop)]
 pub enum Place {
     /// A variable by its name.
     Variable(u32, Bytes),
@@ -61,7 +61,7 @@ pub enum PerlForm {
 }
 
 /// A statement or a declaration.
-#[derive(Drop)]
+#[derive(Debug, Drop)]
 pub enum Stmt {
     /// `{ .. }`
     Block(u32, Vec<Stmt>),
@@ -76,7 +76,7 @@ pub enum Stmt {
 }
 
 /// `XS(NAME) { .. }`: the C name of an XS function and its statements.
-#[derive(Drop)]
+#[derive(Debug, Drop)]
 pub struct XsFun {
     pub line: u32,
     pub name: Bytes,
@@ -84,13 +84,13 @@ pub struct XsFun {
 }
 
 /// What stands at the outer level of a file.
-#[derive(Drop)]
+#[derive(Debug, Drop)]
 pub enum FileItem {
     XsFun(XsFun),
 }
 
 /// A file, and the data model that its types are taken by.
-#[derive(Drop)]
+#[derive(Debug, Drop)]
 pub struct CFile {
     pub model: DataModel,
     pub items: Items<FileItem>,

@@ -1,9 +1,8 @@
 -- The innermost bracket is the last of the program's list.
-use Rattle.std.proofs.Common.{◌≡◌, ◌+◌, List, [], ◌∷◌, ◌++◌, length, map, reverse, ap, ◌∙◌}
+use Rattle.std.proofs.Common.{◌≡◌, List, [], ◌∷◌, ◌++◌, length, map, reverse, ap, ◌∙◌}
 use Rattle.std.proofs.lemmas.List.{map-append, reverse-append, length-reverse, length-map}
 use Rattle.xs_script.specs.declared.around.Open.{Open}
 use Rattle.xs_script.specs.Brackets.{around_of, bracket}
-use Rattle.xs_script.specs.Value.{Bracket}
 
 pub around_of-push : (opens : List Open) (inner : Open) → around_of (opens ++ inner ∷ []) ≡ bracket inner ∷ around_of opens
 around_of-push opens inner = ap reverse (map-append bracket opens (inner ∷ [])) ∙ reverse-append (map bracket opens) (bracket inner ∷ [])

@@ -1,9 +1,9 @@
 -- How the parts of a line go on.
-use Rattle.std.proofs.Common.{◌≡◌, ℕ, zero, suc, ◌+◌, ◌-◌, ◌<◌, List, [], ◌∷◌, ◌++◌, length, drop, Option, Some, None, refl, ap, ◌∙◌, arith, append_assoc}
+use Rattle.std.proofs.Common.{◌≡◌, ℕ, zero, suc, ◌-◌, ◌<◌, List, [], ◌∷◌, ◌++◌, length, drop, Option, Some, None, refl, ap, arith, append_assoc}
 use Rattle.std.proofs.lemmas.List.{append-nil}
 use Rattle.xs_script.specs.declared.token.Token.{Token}
 use Rattle.xs_script.specs.declared.token.Front.TheVariants as front
-use Rattle.xs_script.specs.Lex.{front_of, with_front, by_front, tokens_from}
+use Rattle.xs_script.specs.Lex.{front_of, with_front, tokens_from}
 
 pub with_front-with_front : (xs ys : List Token) (r : Option (List Token)) → with_front xs (with_front ys r) ≡ with_front (xs ++ ys) r
 with_front-with_front xs ys (Some ts) = ap (λ (l : List Token). Some l) (simp append_assoc)

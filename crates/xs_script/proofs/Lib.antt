@@ -1,6 +1,16 @@
 pub mod LexSteps
+pub mod SpelledDone
+pub mod SpelledSound
 pub mod Views
 pub mod Digits
 pub mod Arounds
 pub mod Turns
 pub mod Lines
+pub mod Forms
+pub mod Complete
+pub mod Marks
+pub mod CompleteLines
+pub mod Sound
+pub mod SoundValues
+pub mod SoundLines
+pub mod Meanings

@@ -7,7 +7,7 @@ use Rattle.xs_script.specs.declared.command.E.{E}
 use Rattle.xs_script.specs.declared.command.E.TheVariants as e
 use Rattle.xs_script.specs.declared.command.E.TheVariants.{rolls-Undef, rolls-Number, rolls-Text, rolls-Variable, rolls-Reference, rolls-List, rolls-Hash, rolls-Argument}
 use Rattle.xs_script.specs.declared.command.E.TheOpen.{E-F}
-use Rattle.xs_script.specs.declared.command.E.TheFolds.{fold-E, fold-roll-E}
+use Rattle.xs_script.specs.declared.command.E.TheFolds.{fold-roll-E}
 use Rattle.xs_script.specs.Expr as p
 use Rattle.xs_script.specs.Expr.{Expr, exprs_of, entries_of}
 use Rattle.xs_script.specs.View.{plain, plain_step}

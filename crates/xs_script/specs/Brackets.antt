@@ -1,6 +1,5 @@
 -- The program's open brackets as plain data.
 use Rattle.std.specs.Prelude.{ℕ, List, map, reverse}
-use Rattle.std.specs.Option.{option_map}
 use Rattle.xs_script.specs.declared.command.E.{E}
 use Rattle.xs_script.specs.declared.around.Open.{Open}
 use Rattle.xs_script.specs.declared.around.Open.TheVariants as o

@@ -2,6 +2,7 @@ pub mod ValueText
 pub mod Telling
 pub mod Fits
 pub mod Lex
+pub mod Spelling
 pub mod Expr
 pub mod View
 pub mod Numbers
@@ -12,3 +13,6 @@ pub mod Brackets
 pub mod Partial
 pub mod Rules
 pub mod Script
+pub mod Form
+pub mod Grammar
+pub mod Meaning

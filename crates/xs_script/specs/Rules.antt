@@ -1,6 +1,5 @@
 -- Commands and actions.
-use Rattle.std.specs.Prelude.{ℕ, zero, suc, Bool, true, false, if◌then◌else◌, List, [], ◌∷◌, ◌++◌, codes, ◌&&◌, ◌||◌}
-use Rattle.xs_script.specs.declared.token.Token.{Token}
+use Rattle.std.specs.Prelude.{ℕ, zero, suc, Bool, true, false, if◌then◌else◌, List, [], ◌∷◌, ◌++◌, codes, ◌&&◌}
 use Rattle.xs_script.specs.declared.token.Kind.{Kind}
 use Rattle.xs_script.specs.declared.token.Kind.TheVariants as kind
 use Rattle.xs_script.specs.declared.token.Mark.TheVariants as mark

@@ -1,5 +1,5 @@
 -- What the commands so far have declared.
-use Rattle.std.specs.Prelude.{ℕ, zero, Bool, not, ◌&&◌, List, [], ◌∷◌}
+use Rattle.std.specs.Prelude.{ℕ, Bool, not, ◌&&◌, List}
 use Rattle.std.specs.List.{list_any}
 use Rattle.std.specs.Str.{bytes_eq}
 use Rattle.xs_script.specs.declared.scope.Scope.{Scope}

@@ -1,5 +1,5 @@
 -- Lines and scripts, with their first faults.
-use Rattle.std.specs.Prelude.{◌≡◌, ℕ, ◌+◌, ◌==◌, Bool, true, false, ◌&&◌, ◌||◌, if◌then◌else◌, nat_lt, nat_le, List, [], ◌∷◌, ◌++◌, length, Option, None, Some, Result, Ok, Err}
+use Rattle.std.specs.Prelude.{◌≡◌, ℕ, ◌+◌, ◌==◌, Bool, true, false, ◌||◌, if◌then◌else◌, nat_lt, nat_le, List, [], ◌∷◌, ◌++◌, length, Option, None, Some, Result, Ok, Err}
 use Rattle.xs_base.specs.Lines.{lines_of}
 use Rattle.xs_base.specs.Reading.{◌>>=◌}
 use Rattle.xs_base.specs.declared.fault.Fault.{Fault}

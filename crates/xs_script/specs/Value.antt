@@ -1,5 +1,5 @@
 -- Expressions. What stands in brackets is read with the list of the brackets that are open, the innermost first.
-use Rattle.std.specs.Prelude.{ℕ, zero, suc, ◌+◌, Bool, true, false, if◌then◌else◌, nat_lt, List, [], ◌∷◌, ◌++◌, length, Option, Some, None, codes}
+use Rattle.std.specs.Prelude.{ℕ, zero, suc, ◌+◌, Bool, if◌then◌else◌, nat_lt, List, [], ◌∷◌, ◌++◌, length, Option, Some, None, codes}
 use Rattle.xs_script.specs.declared.command.Number.{Number}
 use Rattle.xs_script.specs.declared.command.Number.TheVariants as number
 use Rattle.xs_script.specs.declared.token.Kind.{Kind}

@@ -1,7 +1,11 @@
 //! Lines and scripts.
 ghost use Rattle.std.specs.Option.{option_copied, option_map};
-ghost use Rattle.std.specs.Prelude.{◌≡◌, ◌-◌, ◌<◌, ◌^◌, IfNone, IfOk, IfSome, OnOk, false, length};
+ghost use Rattle.std.specs.Prelude.{◌≡◌, ◌-◌, ◌<◌, ◌^◌, IfNone, IfOk, IfSome, List, OnOk, Result, false, length};
+ghost use Rattle.xs_base.specs.Lines.{lines_of};
 ghost use Rattle.xs_base.specs.Reading.{GivesBy};
+ghost use Rattle.xs_base.specs.declared.fault.Fault.{Fault};
+ghost use Rattle.xs_script.specs.Expr.{Said};
+ghost use Rattle.xs_script.specs.Meaning.{LinesMean, Means};
 ghost use Rattle.xs_script.specs.Script as spec;
 ghost use Rattle.xs_script.specs.View.{said, said_all};
 
@@ -169,13 +173,9 @@ fn reading(alloc: Global, scope: &Scope, line: &Line) -> Result<(Command, Met), 
     Ok((found, cursor.into_met()))
 }
 
-/// The commands of a script, in their order, or the first fault of the first line that has one: 951 where a line has no
-/// reading, 952 where a variable is not declared or was dropped, 953 where a variable or a sub is declared twice, 954 where
-/// a number is out of its range, 955 where brackets nest deeper than 16, and 956 where there are more than 10,000 commands,
-/// 256 variables or 256 subs. Empty lines and lines whose first byte behind blanks is `#` have no command.
-pub fn read_script(alloc: Global, src: &Bytes) -> Result<Vec<Command>, Refuse>
+fn commands(alloc: Global, src: &Bytes) -> Result<Vec<Command>, Refuse>
     requires { length src.now < 2 ^ 32 - 1 }
-    ensures exact { GivesBy said_all result (spec.script_of src.now) }
+    ensures { GivesBy said_all result (spec.script_of src.now) }
 {
     let all = lines(alloc, src)?;
     let mut scope = empty_scope(alloc);
@@ -187,4 +187,24 @@ pub fn read_script(alloc: Global, src: &Bytes) -> Result<Vec<Command>, Refuse>
         }
     }
     Ok(out)
+}
+
+/// The commands of a script, in their order, or the first fault of the first line that has one: 951 where a line has no
+/// reading, 952 where a variable is not declared or was dropped, 953 where a variable or a sub is declared twice, 954 where
+/// a number is out of its range, 955 where brackets nest deeper than 16, and 956 where there are more than 10,000 commands,
+/// 256 variables or 256 subs. Of several faults of a line the one of the least code is given, and of these the leftmost.
+/// Empty lines and lines whose first byte behind blanks is `#` have no command.
+pub fn read_script(alloc: Global, src: &Bytes) -> Result<Vec<Command>, Refuse>
+    requires { length src.now < 2 ^ 32 - 1 }
+
+    // Which commands or which fault it is.
+    ensures exact { GivesBy said_all result (spec.script_of src.now) }
+
+    // The lines mean this by the rules of the grammar.
+    ensures sound { Means result src.now }
+
+    // What the lines mean by those rules is given, so that they mean one thing.
+    ensures complete { (r : Result (List Said) Fault) → LinesMean spec.empty_scope (lines_of src.now) r → GivesBy said_all result r }
+{
+    commands(alloc, src)
 }

@@ -1,1 +1,5 @@
 pub mod Joining
+pub mod FirstForms
+pub mod GluePieces
+pub mod FormWords
+pub mod ReadBack

@@ -1,1 +1,3 @@
 pub mod Stub
+pub mod FirstForm
+pub mod Intended

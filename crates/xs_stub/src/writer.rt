@@ -4,9 +4,9 @@ ghost use Rattle.std.specs.List.{flat_map};
 ghost use Rattle.std.specs.Prelude.{◌≡◌, IfOk, map};
 ghost use Rattle.xs_stub.specs.Stub.{boot_text, declaration_text, end_text, glue_text, head_text, input_text, inputs_text, joined_names, more_names, more_terms, registration_text, sum_text, term_text, together, work_text, xsub_text};
 
-use xs_iface::{Module, Param, Term, Xsub, underscored};
 use std::alloc::Global;
 use xs_base::{Bytes, Memory};
+use xs_iface::{Module, Param, Term, Xsub, underscored};
 
 /// The glue text. Its layout is this project's own; what it calls is described in perlxs and perlapi.
 #[tactic(auto, unfolding(crate::specs::Stub::glue_text))]
@@ -57,7 +57,8 @@ fn write_xsub(alloc: Global, x: &Xsub) -> Result<Bytes, Memory>
 {
     let head = write_head(alloc, x)?;
     let work = write_work(alloc, x)?;
-    let end = b"        RETVALSV = sv_newmortal();\n        sv_setiv(RETVALSV, (IV)RETVAL);\n        ST(0) = RETVALSV;\n        XSRETURN(1);\n    }\n}\n".as_slice();
+    let end =
+        b"        RETVALSV = sv_newmortal();\n        sv_setiv(RETVALSV, (IV)RETVAL);\n        ST(0) = RETVALSV;\n        XSRETURN(1);\n    }\n}\n".as_slice();
     together(alloc, &[head.as_slice(), work.as_slice(), end])
 }
 
@@ -72,7 +73,18 @@ fn write_head(alloc: Global, x: &Xsub) -> Result<Bytes, Memory>
     let test = b")\n{\n    dXSARGS;\n    if (items != ".as_slice();
     let croak = b")\n        croak_xs_usage(cv, \"".as_slice();
     let block = b"\");\n    {\n".as_slice();
-    together(alloc, &[begin, x.glue.as_slice(), test, count.as_slice(), croak, names.as_slice(), block])
+    together(
+        alloc,
+        &[
+            begin,
+            x.glue.as_slice(),
+            test,
+            count.as_slice(),
+            croak,
+            names.as_slice(),
+            block,
+        ],
+    )
 }
 
 // The variables, the inputs, and the line of the sum.
@@ -87,7 +99,18 @@ fn write_work(alloc: Global, x: &Xsub) -> Result<Bytes, Memory>
     let result = b"        int RETVAL;\n        SV *RETVALSV;\n".as_slice();
     let assign = b"RETVAL = ".as_slice();
     let end = b";\n".as_slice();
-    together(alloc, &[declarations.as_slice(), result, inputs.as_slice(), x.indent.as_slice(), assign, sum.as_slice(), end])
+    together(
+        alloc,
+        &[
+            declarations.as_slice(),
+            result,
+            inputs.as_slice(),
+            x.indent.as_slice(),
+            assign,
+            sum.as_slice(),
+            end,
+        ],
+    )
 }
 
 // The names of the parameters, joined by a comma and a space.
@@ -156,7 +179,10 @@ fn write_input(alloc: Global, place: u64, param: &Param) -> Result<Bytes, Memory
     let begin = b"        ".as_slice();
     let read = b" = (int)SvIV(ST(".as_slice();
     let end = b"));\n".as_slice();
-    together(alloc, &[begin, param.name.as_slice(), read, at.as_slice(), end])
+    together(
+        alloc,
+        &[begin, param.name.as_slice(), read, at.as_slice(), end],
+    )
 }
 
 // The terms of a sum, joined by a plus.
@@ -206,7 +232,10 @@ fn write_boot(alloc: Global, m: &Module) -> Result<Bytes, Memory>
     let begin = b"\nXS(boot_".as_slice();
     let block = b")\n{\n    dXSARGS;\n".as_slice();
     let end = b"    XSRETURN_YES;\n}\n".as_slice();
-    together(alloc, &[begin, boot.as_slice(), block, registrations.as_slice(), end])
+    together(
+        alloc,
+        &[begin, boot.as_slice(), block, registrations.as_slice(), end],
+    )
 }
 
 #[tactic(auto, using(std::proofs::Common::append_assoc))]
@@ -227,5 +256,8 @@ fn write_registration(alloc: Global, x: &Xsub) -> Result<Bytes, Memory>
     let begin = b"    newXS_deffile(\"".as_slice();
     let comma = b"\", ".as_slice();
     let end = b");\n".as_slice();
-    together(alloc, &[begin, x.full.as_slice(), comma, x.glue.as_slice(), end])
+    together(
+        alloc,
+        &[begin, x.full.as_slice(), comma, x.glue.as_slice(), end],
+    )
 }

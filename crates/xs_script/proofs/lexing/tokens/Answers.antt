@@ -1,4 +1,4 @@
-use Rattle.std.proofs.Common.{◌≡◌, ◌<◌, ◌∙◌, ap, sym, length, arith, refl, rules}
+use Rattle.std.proofs.Common.{◌<◌, ◌∙◌, ap, sym, length, arith, refl, rules}
 use Rattle.xs_script.proofs.LexSteps.{at_blank, at_nothing, at_piece, at_end}
 use Rattle.xs_script.proofs.lexing.tokens.Goals as goal
 

@@ -1,4 +1,4 @@
-use Rattle.std.proofs.Common.{◌≡◌, ◌≤◌, ◌+◌, ◌*◌, ◌-◌, ◌^◌, arith}
+use Rattle.std.proofs.Common.{◌^◌, arith}
 use Rattle.xs_script.proofs.Digits.{too_wide}
 use Rattle.xs_script.proofs.number.magnitude.Goals as goal
 

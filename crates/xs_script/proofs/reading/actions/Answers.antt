@@ -1,4 +1,4 @@
-use Rattle.std.proofs.Common.{◌≡◌, rules, arith, ◌-◌, ◌+◌}
+use Rattle.std.proofs.Common.{rules, arith}
 use Rattle.std.proofs.lemmas.Grind.{common_steps}
 use Rattle.xs_script.specs.Rules.{actions_from}
 use Rattle.xs_script.specs.View.{acts_of}

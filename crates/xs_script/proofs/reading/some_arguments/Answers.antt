@@ -1,4 +1,4 @@
-use Rattle.std.proofs.Common.{◌≡◌, rules, arith, ◌-◌, ◌+◌}
+use Rattle.std.proofs.Common.{rules, arith}
 use Rattle.std.proofs.lemmas.Grind.{common_steps}
 use Rattle.xs_script.specs.Rules.{arguments_from}
 use Rattle.xs_script.specs.View.{exprs_in}

@@ -1,4 +1,3 @@
-use Rattle.std.proofs.Common.{◌∙◌}
 use Rattle.std.proofs.lemmas.Result.{IfOk-weaker}
 use Rattle.xs_stub.specs.Stub.{input_text}
 use Rattle.xs_stub.proofs.writer.write_input.Goals as goal

@@ -1,0 +1,135 @@
+-- Where the machine stands behind a call, by the ways out.
+use Rattle.std.proofs.Common.{◌≡◌, ℕ, suc, ℤ, ◌+◌, ◌-◌, ◌<◌, ◌≤◌, arith, true, false, List, [], ◌∷◌, ◌++◌, length, Some, None, refl, ap, ◌∙◌}
+use Rattle.std.proofs.lemmas.Bool.Decides.{nat_tests}
+use Rattle.std.specs.Prelude.{◌==◌, nat_lt, Result, Ok, Err}
+use Rattle.xs_machine.proofs.Ends.{run_over, stays}
+use Rattle.xs_machine.specs.declared.api.Frame.{Frame}
+use Rattle.xs_machine.specs.declared.api.Operand.{Operand}
+use Rattle.xs_machine.specs.declared.api.Operand.TheVariants.{Unset, Num, Scalar}
+use Rattle.xs_machine.specs.declared.api.Registered.{Registered}
+use Rattle.xs_machine.specs.declared.machine.Outcome.{Outcome}
+use Rattle.xs_machine.specs.declared.machine.Outcome.TheVariants as outcome
+use Rattle.xs_machine.specs.Machine.{Mach, halt, run, run_on, Enter, Leave, begun_at, called, call_meaning, call_over, function_at, is_over, left, undefined_text, with_call}
+use Rattle.xs_machine.specs.Rows.{counted_rows, usage_text}
+use Rattle.xs_machine.specs.State.{State}
+use Rattle.xs_machine.specs.Tree.{Code}
+use Rattle.xs_machine.specs.World.{Cells, World, Clean, cell_at, depths_of, is_read_only, may_make, registered, sweep}
+use Rattle.xs_values.specs.declared.kind.Kind.TheVariants.{I32, I64}
+use Rattle.xs_values.specs.declared.operator.Op.TheVariants.{Add}
+use Rattle.xs_values.specs.declared.trap.Trap.{Trap}
+use Rattle.xs_values.specs.declared.trap.Trap.TheVariants.{Large}
+use Rattle.xs_values.specs.Numbers.{Number, calculated, wrapped, wrapped_value}
+use Rattle.xs_iface.specs.declared.xsub.Param.{Param}
+use Rattle.xs_iface.specs.declared.xsub.Term.{Term}
+use Rattle.xs_iface.specs.declared.xsub.Xsub.{Xsub}
+use Rattle.xs_stub.specs.Stub.{joined_names}
+use Rattle.xs_call.specs.GlueCode.{xsub_function}
+use Rattle.xs_call.specs.Headline.{IsTermOfTwo}
+use Rattle.xs_call.specs.Meaning.{term_value}
+use Rattle.xs_call.proofs.Statements.{state}
+use Rattle.xs_call.proofs.Bodies.{formed, frame, world, unset, holds, usage_means, trapped_means, large_means, returned_means}
+
+-- the machine between the calls
+abbrev pub resting : Outcome → List Operand → Frame → World → ℕ → Mach World
+resting o vars f w turns = halt o (state vars f w turns)
+
+-- a machine whose work ended in this way, over this world
+pub record EndsAs (m : Mach World) (o : Outcome) (w : World) : Type 0 where
+  pub vars : List Operand
+  pub frame : Frame
+  pub turns : ℕ
+  pub is : m ≡ resting o vars frame w turns
+
+fits : (n : ℕ) → n ≤ 1000000 → nat_lt 1000000 (0 + n) ≡ false
+fits n h = grind (arith, nat_tests)
+
+exceeds : (n : ℕ) → 1000000 < n → nat_lt 1000000 (0 + n) ≡ true
+exceeds n h = grind (arith, nat_tests)
+
+module _ (code : Code) (sub args temps : List ℕ) (cells : Cells) (names : List Registered) (o : Outcome) (vars : List Operand) (f : Frame) (t0 : ℕ) (goes : is_over o ≡ false) where
+  abbrev before : World
+  before = world cells [] 0 [] temps names
+
+  -- more arguments than the list holds
+  pub too_many_called : (turns : ℕ) → 1000000 < length args → EndsAs (called code sub args turns (resting o vars f before t0)) (outcome.Trapped Large) before
+  too_many_called turns h =
+      let begins : begun_at sub (registered sub names) args turns (resting o vars f before t0) ≡ resting (outcome.Trapped Large) vars f before t0 = rw (goes, exceeds (length args) h) refl in
+      record { vars = vars; frame = f; turns = t0; is = ap (run code) begins ∙ stays counted_rows code (left code (resting (outcome.Trapped Large) vars f before t0)) (resting (outcome.Trapped Large) vars f before t0) refl }
+
+  -- a call is what its function means
+  pub over : (turns : ℕ) → length args ≤ 1000000 → called code sub args turns (resting o vars f before t0) ≡ call_over counted_rows code (depths_of before) (call_meaning counted_rows code (function_at code (registered sub names)) (state [] (frame sub 0) (with_call args before) turns))
+  over turns h =
+      let begins : begun_at sub (registered sub names) args turns (resting o vars f before t0) ≡ run_on (Enter (registered sub names) ∷ Leave (depths_of before) ∷ []) [] (state [] (frame sub 0) (with_call args before) turns) = rw (goes, fits (length args) h) refl in
+      ap (run code) begins ∙ run_over counted_rows code (registered sub names) (depths_of before) (state [] (frame sub 0) (with_call args before) turns)
+
+  none_above : length temps - length temps ≡ 0
+  none_above = omega arith
+
+  after : List Operand → ℕ → ℕ → State World
+  after vs items turns = state vs (frame sub items) before turns
+
+  -- a croak cuts the stacks to where they stood
+  cut_called : (top : ℕ) → sweep (depths_of before) (world cells args top (0 ∷ []) temps names) ≡ Clean before
+  cut_called top = rw none_above refl
+
+  cut_entered : (top : ℕ) → sweep (depths_of before) (world cells args top [] temps names) ≡ Clean before
+  cut_entered top = rw none_above refl
+
+  -- a name that no function has
+  pub unknown_called : (turns : ℕ) → length args ≤ 1000000 → registered sub names ≡ None → EndsAs (called code sub args turns (resting o vars f before t0)) (outcome.Croaked (undefined_text sub)) before
+  unknown_called turns h e = record { vars = []; frame = frame sub 0; turns = turns; is = over turns h ∙ rw (e, cut_called (0 + length args)) refl }
+
+  module _ (x : Xsub) (p q : Param) (t u : Term) (known : registered sub names ≡ Some 0) (here : function_at code (Some 0) ≡ Some (xsub_function (formed x p q t u))) where
+    -- another number of arguments
+    pub usage_called : (turns : ℕ) → length args ≤ 1000000 → (length args == 2) ≡ false → EndsAs (called code sub args (suc turns) (resting o vars f before t0)) (outcome.Croaked (usage_text sub (joined_names (p ∷ q ∷ [])))) before
+    usage_called turns h d = record {
+      vars = unset;
+      frame = frame sub (0 + length args - 0);
+      turns = turns;
+      is = over (suc turns) h ∙ rw (known, here, usage_means x p q t u sub args temps cells names (0 + length args) turns (omega arith) h d, cut_entered (0 + length args)) refl;
+    }
+
+-- ---- two arguments
+
+module _ (code : Code) (sub temps : List ℕ) (n0 n1 : ℕ) (cells : Cells) (names : List Registered) (o : Outcome) (vars : List Operand) (f : Frame) (t0 turns : ℕ) (goes : is_over o ≡ false) (x : Xsub) (p q : Param) (t u : Term) (ht : IsTermOfTwo t) (hu : IsTermOfTwo u) (known : registered sub names ≡ Some 0) (here : function_at code (Some 0) ≡ Some (xsub_function (formed x p q t u))) (a b : ℤ) (e0 : cell_at n0 cells ≡ holds a) (e1 : cell_at n1 cells ≡ holds b) where
+  abbrev pair : List ℕ
+  pair = n0 ∷ n1 ∷ []
+
+  abbrev end : Mach World
+  end = called code sub pair (suc turns) (resting o vars f (world cells [] 0 [] temps names) t0)
+
+  goes_over : end ≡ call_over counted_rows code (depths_of (world cells [] 0 [] temps names)) (call_meaning counted_rows code (function_at code (registered sub names)) (state [] (frame sub 0) (with_call pair (world cells [] 0 [] temps names)) (suc turns)))
+  goes_over = over code sub pair temps cells names o vars f t0 goes (suc turns) (omega arith)
+
+  abbrev sum : Result Number Trap
+  sum = calculated Add (term_value (wrapped I32 a ∷ wrapped I32 b ∷ []) t) (term_value (wrapped I32 a ∷ wrapped I32 b ∷ []) u)
+
+  abbrev first_two : List Operand
+  first_two = Num (wrapped I32 a) ∷ Num (wrapped I32 b) ∷ []
+
+  pub trapped_called : (trap : Trap) → sum ≡ Err trap → EndsAs end (outcome.Trapped trap) (world cells pair 2 [] temps names)
+  trapped_called trap e = record {
+    vars = first_two ++ Unset ∷ Unset ∷ [];
+    frame = frame sub 2;
+    turns = turns;
+    is = goes_over ∙ rw (known, here, trapped_means x p q t u ht hu sub temps cells names n0 n1 turns a b e0 e1 trap e) refl;
+  }
+
+  pub large_called : (n : Number) → sum ≡ Ok n → may_make cells ≡ false → EndsAs end (outcome.Trapped Large) (world cells pair 2 [] temps names)
+  large_called n e full = record {
+    vars = first_two ++ Num (wrapped I32 n.value) ∷ Unset ∷ [];
+    frame = frame sub 2;
+    turns = turns;
+    is = goes_over ∙ rw (known, here, large_means x p q t u ht hu sub temps cells names n0 n1 turns a b e0 e1 n e full) refl;
+  }
+
+  abbrev stored : Number → ℤ
+  stored n = wrapped_value I64 (wrapped_value I64 (wrapped_value I32 n.value))
+
+  pub returned_called : (n : Number) → sum ≡ Ok n → may_make cells ≡ true → is_read_only (length cells) ≡ false → EndsAs end (outcome.Returned (length cells ∷ [])) (world (cells ++ holds (stored n) ∷ []) (length cells ∷ []) 1 [] (length cells ∷ temps) names)
+  returned_called n e room writable = record {
+    vars = first_two ++ Num (wrapped I32 n.value) ∷ Scalar (Some (length cells)) ∷ [];
+    frame = frame sub 2;
+    turns = turns;
+    is = goes_over ∙ rw (known, here, returned_means x p q t u ht hu sub temps cells names n0 n1 turns a b e0 e1 n e room writable) refl;
+  }

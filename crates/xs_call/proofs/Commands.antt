@@ -1,0 +1,89 @@
+-- One command: both definitions tell the same of it, and leave what fits together.
+use Rattle.std.proofs.Common.{◌≡◌, ℕ, ℤ, ◌+◌, ◌≤◌, arith, false, List, [], ◌++◌, length, Option, Some, None, refl, ap, ◌∙◌, append_assoc, length-append}
+use Rattle.std.specs.Prelude.{⊤}
+use Rattle.xs_machine.specs.declared.api.Frame.{Frame}
+use Rattle.xs_machine.specs.declared.api.Operand.{Operand}
+use Rattle.xs_machine.specs.declared.api.Registered.{Registered}
+use Rattle.xs_machine.specs.declared.machine.Outcome.{Outcome}
+use Rattle.xs_machine.specs.declared.machine.Outcome.TheVariants as outcome
+use Rattle.xs_machine.specs.Machine.{Mach, is_over}
+use Rattle.xs_machine.specs.World.{Cells, World, live_of}
+use Rattle.xs_call.specs.declared.calls.CallCommand.{CallCommand}
+use Rattle.xs_call.specs.Meaning as declared
+use Rattle.xs_call.specs.Meaning.{Store, Ended, names_from, show_in, term_value}
+use Rattle.xs_call.specs.Running as running
+use Rattle.xs_call.specs.Running.{end_of, show_cell}
+use Rattle.xs_call.specs.Transcript.{Returned, Croaked, call_text, end_lines, live_line}
+use Rattle.xs_call.proofs.Bodies.{world}
+use Rattle.xs_call.proofs.Calling.{resting}
+use Rattle.xs_call.proofs.Temporaries.{made, gone, newest, all_swept, length-gone, none_left}
+
+-- the machine between two commands, over names, beside the declared store
+pub record AtRest (names : List Registered) (m : Mach World) (s : Store) : Type 0 where
+  pub how : Outcome
+  pub vars : List Operand
+  pub frame : Frame
+  pub turns : ℕ
+  pub cells : Cells
+  pub is : m ≡ resting how vars frame (world cells [] 0 [] [] names) turns
+  pub goes : is_over how ≡ false
+  pub long : 5 ≤ length cells
+  pub none : live_of cells ≡ 0
+  pub same : length cells ≡ length s
+  pub few : length cells ≤ 4000005
+
+abbrev pub SameNext : List Registered → Option (Mach World) → Option Store → Type 0
+SameNext names None None = ⊤
+SameNext names (Some m) (Some s) = AtRest names m s
+SameNext names None (Some s) = ⊥
+SameNext names (Some m) None = ⊥
+
+-- both tell the same, and both go on or neither does
+pub record SameTold (names : List Registered) (a : running.Told) (b : declared.Told) : Type 0 where
+  pub text : a.text ≡ b.text
+  pub next : SameNext names a.next b.next
+
+-- ---- behind a call that goes on
+
+-- what a call that goes on leaves: its temporaries are numbers that all were made since the rest
+pub record Leaves (s : Store) (h : Cells) (zs : List ℤ) : Type 0 where
+  pub long : 5 ≤ length h
+  pub none : live_of h ≡ 0
+  pub same : length s ≡ length h + length zs
+  pub few : length h + length zs ≤ 4000005
+
+module _ (names : List Registered) (c : CallCommand) (args : List ℕ) (vars : List Operand) (f : Frame) (turns : ℕ) (held : List ℕ) (top : ℕ) (h : Cells) (zs : List ℤ) (s : Store) (left : Leaves s h zs) where
+  abbrev behind : World
+  behind = world (h ++ made zs) held top [] (newest (length h) zs []) names
+
+  abbrev settled : World
+  settled = world (h ++ gone zs) [] 0 [] [] names
+
+  rests : (o : Outcome) → is_over o ≡ false → AtRest names (resting o vars f settled turns) s
+  rests o goes = record {
+    how = o;
+    vars = vars;
+    frame = f;
+    turns = turns;
+    cells = h ++ gone zs;
+    is = refl;
+    goes = goes;
+    long = omega (arith, left.long, length-append h (gone zs));
+    none = none_left h zs left.long left.none;
+    same = omega (arith, left.same, length-append h (gone zs), length-gone zs);
+    few = omega (arith, left.few, length-append h (gone zs), length-gone zs);
+  }
+
+  text_same : (lines others : List ℕ) → lines ≡ others → (call_text c ++ lines) ++ live_line (live_of (h ++ gone zs)) 0 0 ≡ call_text c ++ (others ++ live_line 0 0 0)
+  text_same lines others e =
+      ap (λ n. (call_text c ++ lines) ++ live_line n 0 0) (none_left h zs left.long left.none)
+      ∙ ap (λ l. (call_text c ++ l) ++ live_line 0 0 0) e
+      ∙ append_assoc (call_text c) others (live_line 0 0 0)
+
+  pub returned_told : (items : List ℕ) → end_lines (show_cell (h ++ made zs)) args (Returned items) ≡ end_lines (show_in s) args (Returned items) → SameTold names (running.told_end (call_text c) args (Returned items) (resting (outcome.Returned items) vars f behind turns)) (declared.told_end c args (Returned items) s)
+  returned_told items e =
+      rw (all_swept zs h (length h) held top names refl left.long) (record { text = text_same (end_lines (show_cell (h ++ made zs)) args (Returned items)) (end_lines (show_in s) args (Returned items)) e; next = rests (outcome.Returned items) refl })
+
+  pub croaked_told : (text : List ℕ) → end_lines (show_cell (h ++ made zs)) args (Croaked text) ≡ end_lines (show_in s) args (Croaked text) → SameTold names (running.told_end (call_text c) args (Croaked text) (resting (outcome.Croaked text) vars f behind turns)) (declared.told_end c args (Croaked text) s)
+  croaked_told text e =
+      rw (all_swept zs h (length h) held top names refl left.long) (record { text = text_same (end_lines (show_cell (h ++ made zs)) args (Croaked text)) (end_lines (show_in s) args (Croaked text)) e; next = rests (outcome.Croaked text) refl })

@@ -1,0 +1,44 @@
+-- The job of `call`, and what is owed to the text that is written for it.
+use Rattle.std.specs.Prelude.{◌≡◌, ℕ, List, Result, Ok}
+use Rattle.xs_base.specs.Reading.{◌>>=◌}
+use Rattle.xs_base.specs.declared.fault.Fault.{Fault}
+use Rattle.xs_base.specs.declared.place.FileOf.TheVariants.{Text}
+use Rattle.xs_call.specs.declared.calls.CallCommand.{CallCommand}
+use Rattle.xs_call.specs.Calls.{calls_said}
+use Rattle.xs_call.specs.Headline.{ExactAfter}
+use Rattle.xs_call.specs.Meaning.{declared_transcript}
+use Rattle.xs_call.specs.Running.{machine_transcript}
+use Rattle.xs_csyn.specs.Files.{file_of}
+use Rattle.xs_iface.specs.declared.xsub.Module.{Module}
+use Rattle.xs_iface.specs.Iface.{module_of}
+use Rattle.xs_machine.specs.Machine.{loaded}
+use Rattle.xs_machine.specs.Tree.{Code}
+use Rattle.xs_machine.specs.Typing.{typed_of}
+use Rattle.xs_script.specs.Script.{script_of}
+use Rattle.xs_stub.specs.Stub.{glue_text}
+
+-- The transcript of a C text: it is read, its names are resolved, and the machine runs it.
+unfoldable pub text_transcript : List ℕ → List CallCommand → Result (List ℕ) Fault
+text_transcript text cs = file_of Text text >>= λ tree. typed_of tree >>= λ code. Ok (machine_transcript code loaded cs)
+
+-- The job of `call`: the first fault of the XS file, or the first of the script, or the declared transcript.
+unfoldable pub call_of : List ℕ → List ℕ → Result (List ℕ) Fault
+call_of xs script = module_of xs >>= λ m. script_of script >>= λ said. calls_said said >>= λ cs. Ok (declared_transcript m cs)
+
+-- The C text that is written for a module, read and run, gives each call its declared meaning.
+abbrev pub TextRunsAsDeclared : Module → List CallCommand → Type 0
+TextRunsAsDeclared m cs = text_transcript (glue_text m) cs ≡ Ok (declared_transcript m cs)
+
+-- So it is for each XS file that is read, and for each script of calls.
+abbrev pub EachTextRunsAsDeclared : Type 0
+EachTextRunsAsDeclared = (xs : List ℕ) (m : Module) (cs : List CallCommand) → module_of xs ≡ Ok m → TextRunsAsDeclared m cs
+
+-- The code that is read from the written text leaves nothing behind the boot, and behind each command that goes on: no pending work, no
+-- argument, mark, temporary or scope, and no counted scalar.
+pub record LeavesNothing (m : Module) (cs : List CallCommand) : Type 0 where
+  pub code : Code
+  pub read : (file_of Text (glue_text m) >>= λ tree. typed_of tree) ≡ Ok code
+  pub exact : ExactAfter m code cs
+
+abbrev pub EachTextLeavesNothing : Type 0
+EachTextLeavesNothing = (xs : List ℕ) (m : Module) (cs : List CallCommand) → module_of xs ≡ Ok m → LeavesNothing m cs

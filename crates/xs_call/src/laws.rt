@@ -1,0 +1,27 @@
+//! Laws of the definitions, for all modules and scripts.
+
+ghost use Rattle.xs_call.specs.Job.{EachTextLeavesNothing, EachTextRunsAsDeclared};
+ghost use Rattle.xs_call.specs.Headline.{EachFileIsOfForm, RunsAsDeclared, StaysExact};
+
+/// The resolved trees of the glue of a module of the first form, run by the counted machine on any script, give the transcript that
+/// the module's interface declares. Behind the boot and behind each command that goes on no counted scalar, no temporary, no mark and
+/// no scope is left, and the next scalar has the name that the declared store gives next.
+#[tactic(auto, using(crate::proofs::Whole::runs_as_declared, crate::proofs::Whole::stays_exact_after))]
+pub fn glue_runs_as_declared()
+    ensures transcript { RunsAsDeclared }
+    ensures exact { StaysExact }
+{}
+
+/// Each XS file that is read gives a module of the first form, so the law above holds of it.
+#[tactic(auto, using(crate::proofs::Reading::each_file))]
+pub fn files_are_of_form()
+    ensures { EachFileIsOfForm }
+{}
+
+/// The C text that is written for an XS file, read and run, tells what the file declares: for each XS file that is read, and each script
+/// of calls. And it leaves nothing behind the boot or behind a command that goes on.
+#[tactic(auto, using(crate::proofs::Join::text_runs, crate::proofs::Join::text_leaves_nothing))]
+pub fn written_text_runs_as_declared()
+    ensures transcript { EachTextRunsAsDeclared }
+    ensures exact { EachTextLeavesNothing }
+{}

@@ -1,0 +1,451 @@
+-- What is an expression by the rules is read.
+use Rattle.std.proofs.Common.{◌≡◌, ℕ, zero, suc, ◌+◌, ◌<◌, ◌≤◌, max, Bool, true, false, if◌then◌else◌, ◌&&◌, not, nat_lt, List, [], ◌∷◌, ◌++◌, length, append_assoc, Some, None, Ok, refl, ap, sym, ◌∙◌, add-one, arith}
+use Rattle.std.specs.Prelude.{codes}
+use Rattle.std.specs.Str.{bytes_eq}
+use Rattle.std.proofs.lemmas.Slice.Eq.{bytes_eq-Decides}
+use Rattle.xs_base.specs.declared.place.FileOf.{FileOf}
+use Rattle.xs_csyn.specs.declared.node.Level.{Level}
+use Rattle.xs_csyn.specs.declared.node.Level.TheVariants as level
+use Rattle.xs_csyn.specs.declared.token.Sort.{Sort}
+use Rattle.xs_csyn.specs.declared.token.Sort.TheVariants as sort
+use Rattle.xs_csyn.specs.declared.token.Token.{Token}
+use Rattle.xs_csyn.specs.declared.tree.BinaryOp.{BinaryOp}
+use Rattle.xs_csyn.specs.declared.tree.BinaryOp.TheVariants as op
+use Rattle.xs_csyn.specs.declared.tree.CType.{CType}
+use Rattle.xs_csyn.specs.Tree as t
+use Rattle.xs_csyn.specs.Tree.{ExprTree, ExprTrees, PlaceTree, exprs_of}
+use Rattle.xs_csyn.specs.Words.{is_among, no_names, type_words}
+use Rattle.xs_csyn.specs.Input.{Input, Outcome, and_then, head_is, is_sign, is_sign_sort, is_key, is_key_sort, is_name_by, is_type_word, sees, sees_type, sees_name, line, line_at, next, after, expect, sort_of, spelling, left, a_type_word}
+use Rattle.xs_csyn.specs.Exprs.{Found, FoundAll, expr, whole, assignment, comparison, sum, unary, cast, climb, named, arguments, list, list_from, operator, place_of, count_stars, behind_stars, stars, a_type}
+use Rattle.xs_csyn.specs.Heights.{height, heights, place_height}
+use Rattle.xs_csyn.specs.Grammar as g
+use Rattle.xs_csyn.specs.Grammar.{Whole, Comparison, Sum, Unary, Arguments, APlace, AType, Stars, Is, MayName, line_of, line_of_place}
+use Rattle.xs_csyn.proofs.Sound.{unary_line}
+use Rattle.xs_csyn.proofs.Values.{is_among-fewer}
+use Rattle.xs_csyn.proofs.SoundFiles.{place_first, sum_line}
+
+-- ---- marks
+
+same_bytes : (xs ys : List ℕ) → bytes_eq xs ys ≡ true → xs ≡ ys
+same_bytes xs ys e = (bytes_eq-Decides xs ys).0 e
+
+other_mark : (s : Sort) (text m n : List ℕ) → (is_sign_sort s && bytes_eq text m) ≡ true → (is_sign_sort s && bytes_eq text n) ≡ bytes_eq m n
+other_mark sort.Sign text m n e = ap (λ x. bytes_eq x n) (same_bytes text m e)
+other_mark sort.Key text m n e = absurd cc
+other_mark sort.Name text m n e = absurd cc
+other_mark (sort.Numeral v) text m n e = absurd cc
+other_mark sort.OtherNumeral text m n e = absurd cc
+other_mark sort.Quoted text m n e = absurd cc
+
+-- a token that is one mark is another only if they are the same
+pub marks : (m n : List ℕ) (u : Token) → Is m u → is_sign n u ≡ bytes_eq m n
+marks m n u = other_mark u.sort u.text m n
+
+name_no_mark : (s : Sort) (text m : List ℕ) → is_name_by s text ≡ true → (is_sign_sort s && bytes_eq text m) ≡ false
+name_no_mark sort.Name text m e = refl
+name_no_mark sort.Key text m e = refl
+name_no_mark sort.Sign text m e = absurd cc
+name_no_mark (sort.Numeral v) text m e = absurd cc
+name_no_mark sort.OtherNumeral text m e = absurd cc
+name_no_mark sort.Quoted text m e = absurd cc
+
+-- a name is no mark
+pub names_no_mark : (m : List ℕ) (u : Token) → MayName u → is_sign m u ≡ false
+names_no_mark m u e = name_no_mark u.sort u.text m e
+
+-- the next token is not this mark
+abbrev pub Stop : List ℕ → List Token → Type 0
+Stop m us = head_is (is_sign m) us ≡ false
+
+-- what may follow an expression
+pub record StopsWhole (us : List Token) : Type 0 where
+  pub no_call : Stop (codes "(") us
+  pub no_plus : Stop (codes "+") us
+  pub no_not_equal : Stop (codes "!=") us
+  pub no_set : Stop (codes "=") us
+
+stops_at : (m : List ℕ) (u : Token) (us : List Token) → Is m u → bytes_eq m (codes "(") ≡ false → bytes_eq m (codes "+") ≡ false → bytes_eq m (codes "!=") ≡ false → bytes_eq m (codes "=") ≡ false → StopsWhole (u ∷ us)
+stops_at m u us is a b c d = record { no_call = marks m (codes "(") u is ∙ a; no_plus = marks m (codes "+") u is ∙ b; no_not_equal = marks m (codes "!=") u is ∙ c; no_set = marks m (codes "=") u is ∙ d }
+
+pub closes : (u : Token) (us : List Token) → Is (codes ")") u → StopsWhole (u ∷ us)
+closes u us is = stops_at (codes ")") u us is refl refl refl refl
+
+pub ends : (u : Token) (us : List Token) → Is (codes ";") u → StopsWhole (u ∷ us)
+ends u us is = stops_at (codes ";") u us is refl refl refl refl
+
+parts_at : (u : Token) (us : List Token) → Is (codes ",") u → StopsWhole (u ∷ us)
+parts_at u us is = stops_at (codes ",") u us is refl refl refl refl
+
+-- ---- heights and lists
+
+height_pos : (a : ExprTree) → 0 < height a
+height_pos (t.Var l x) = omega arith
+height_pos (t.Num l n) = omega arith
+height_pos (t.Str l n) = omega arith
+height_pos (t.Call l x ts) = omega arith
+height_pos (t.Set l p a) = omega arith
+height_pos (t.Two l o a b) = omega arith
+height_pos (t.Cast l to a) = omega arith
+
+abbrev pub found_of : ExprTree → Found
+found_of a = record { tree = a; height = height a }
+
+abbrev list_of : ExprTrees → List ExprTree
+list_of t.NoExprs = []
+list_of (t.MoreExprs a all) = a ∷ list_of all
+
+exprs_of-list_of : (all : ExprTrees) → exprs_of (list_of all) ≡ all
+exprs_of-list_of t.NoExprs = refl
+exprs_of-list_of (t.MoreExprs a all) = ap (t.MoreExprs a) (exprs_of-list_of all)
+
+stars_shrink : {n : ℕ} {ts us : List Token} → Stars n ts us → length us ≤ length ts
+stars_shrink g.no_star = omega arith
+stars_shrink (g.star is s) = omega (arith, stars_shrink s)
+
+pub type_shrinks : {to : CType} {ts us : List Token} → AType to ts us → length us < length ts
+type_shrinks (g.type_word e s) = omega (arith, stars_shrink s)
+
+-- each tree takes a token
+mutual
+  pub whole_shrinks : {a : ExprTree} {ts us : List Token} → Whole a ts us → length us < length ts
+  whole_shrinks (g.set p is x) = omega (arith, place_shrinks p, whole_shrinks x)
+  whole_shrinks (g.is_comparison x) = comparison_shrinks x
+
+  place_shrinks : {p : PlaceTree} {ts us : List Token} → APlace p ts us → length us < length ts
+  place_shrinks (g.variable n) = omega arith
+  place_shrinks (g.st n e op x cl) = omega (arith, whole_shrinks x)
+
+  comparison_shrinks : {a : ExprTree} {ts us : List Token} → Comparison a ts us → length us < length ts
+  comparison_shrinks (g.not_equal x is y) = omega (arith, comparison_shrinks x, sum_shrinks y)
+  comparison_shrinks (g.is_sum x) = sum_shrinks x
+
+  sum_shrinks : {a : ExprTree} {ts us : List Token} → Sum a ts us → length us < length ts
+  sum_shrinks (g.add x is y) = omega (arith, sum_shrinks x, unary_shrinks y)
+  sum_shrinks (g.is_unary x) = unary_shrinks x
+
+  unary_shrinks : {a : ExprTree} {ts us : List Token} → Unary a ts us → length us < length ts
+  unary_shrinks (g.cast op ty cl x) = omega (arith, type_shrinks ty, unary_shrinks x)
+  unary_shrinks (g.int k) = omega arith
+  unary_shrinks (g.text k) = omega arith
+  unary_shrinks (g.name n) = omega arith
+  unary_shrinks (g.call n op x) = omega (arith, arguments_shrink x)
+
+  arguments_shrink : {all : ExprTrees} {ts us : List Token} → Arguments all ts us → length us < length ts
+  arguments_shrink (g.none cl) = omega arith
+  arguments_shrink (g.some x) = more_shrinks x
+
+  more_shrinks : {all : ExprTrees} {ts us : List Token} → g.Some all ts us → length us < length ts
+  more_shrinks (g.last x cl) = omega (arith, whole_shrinks x)
+  more_shrinks (g.more x cm y) = omega (arith, whole_shrinks x, more_shrinks y)
+
+-- ---- what an expression begins with
+
+no_key_by_name : (word : List ℕ) → is_among no_names word ≡ true → (s : Sort) (text : List ℕ) → is_name_by s text ≡ true → (is_key_sort s && bytes_eq text word) ≡ false
+no_key_by_name word among sort.Name text e = refl
+no_key_by_name word among sort.Key text e = by (bytes_eq text word) refl
+  where
+    by : (b : Bool) → bytes_eq text word ≡ b → b ≡ false
+    by true same = absurd (let no_more : true ≡ false = sym among ∙ ap (is_among no_names) (sym (same_bytes text word same)) ∙ named_not (is_among no_names text) e in cc)
+      where
+        named_not : (b : Bool) → not b ≡ true → b ≡ false
+        named_not true h = absurd cc
+        named_not false h = refl
+    by false same = refl
+no_key_by_name word among sort.Sign text e = absurd cc
+no_key_by_name word among (sort.Numeral v) text e = absurd cc
+no_key_by_name word among sort.OtherNumeral text e = absurd cc
+no_key_by_name word among sort.Quoted text e = absurd cc
+
+no_type_by_name : (s : Sort) (text : List ℕ) → is_name_by s text ≡ true → (is_key_sort s && is_among type_words text) ≡ false
+no_type_by_name sort.Name text e = refl
+no_type_by_name sort.Key text e = is_among-fewer no_names type_words text refl (named_not (is_among no_names text) e)
+  where
+    named_not : (b : Bool) → not b ≡ true → b ≡ false
+    named_not true h = absurd cc
+    named_not false h = refl
+no_type_by_name sort.Sign text e = absurd cc
+no_type_by_name (sort.Numeral v) text e = absurd cc
+no_type_by_name sort.OtherNumeral text e = absurd cc
+no_type_by_name sort.Quoted text e = absurd cc
+
+no_key_by_mark : (s : Sort) (text m word : List ℕ) → (is_sign_sort s && bytes_eq text m) ≡ true → (is_key_sort s && bytes_eq text word) ≡ false
+no_key_by_mark sort.Sign text m word e = refl
+no_key_by_mark sort.Key text m word e = absurd cc
+no_key_by_mark sort.Name text m word e = absurd cc
+no_key_by_mark (sort.Numeral v) text m word e = absurd cc
+no_key_by_mark sort.OtherNumeral text m word e = absurd cc
+no_key_by_mark sort.Quoted text m word e = absurd cc
+
+no_type_by_mark : (s : Sort) (text m : List ℕ) → (is_sign_sort s && bytes_eq text m) ≡ true → (is_key_sort s && is_among type_words text) ≡ false
+no_type_by_mark sort.Sign text m e = refl
+no_type_by_mark sort.Key text m e = absurd cc
+no_type_by_mark sort.Name text m e = absurd cc
+no_type_by_mark (sort.Numeral v) text m e = absurd cc
+no_type_by_mark sort.OtherNumeral text m e = absurd cc
+no_type_by_mark sort.Quoted text m e = absurd cc
+
+-- what the first token is not
+pub record Starts (ts : List Token) : Type 0 where
+  pub no_close : Stop (codes ")") ts
+  pub no_block : Stop (codes "{") ts
+  pub no_end : Stop (codes "}") ts
+  pub no_if : head_is (is_key (codes "if")) ts ≡ false
+  pub no_type : head_is is_type_word ts ≡ false
+
+starts_by_name : (n : Token) (ts : List Token) → MayName n → Starts (n ∷ ts)
+starts_by_name n ts e = record {
+  no_close = names_no_mark (codes ")") n e;
+  no_block = names_no_mark (codes "{") n e;
+  no_end = names_no_mark (codes "}") n e;
+  no_if = no_key_by_name (codes "if") refl n.sort n.text e;
+  no_type = no_type_by_name n.sort n.text e;
+}
+
+pub starts_by_mark : (m : List ℕ) (u : Token) (ts : List Token) → Is m u → bytes_eq m (codes ")") ≡ false → bytes_eq m (codes "{") ≡ false → bytes_eq m (codes "}") ≡ false → Starts (u ∷ ts)
+starts_by_mark m u ts is a b c = record {
+  no_close = marks m (codes ")") u is ∙ a;
+  no_block = marks m (codes "{") u is ∙ b;
+  no_end = marks m (codes "}") u is ∙ c;
+  no_if = no_key_by_mark u.sort u.text m (codes "if") is;
+  no_type = no_type_by_mark u.sort u.text m is;
+}
+
+starts_by_int : (u : Token) (ts : List Token) (value : ℕ) → u.sort ≡ sort.Numeral value → Starts (u ∷ ts)
+starts_by_int u ts value e = record {
+  no_close = ap (λ s. is_sign_sort s && bytes_eq u.text (codes ")")) e;
+  no_block = ap (λ s. is_sign_sort s && bytes_eq u.text (codes "{")) e;
+  no_end = ap (λ s. is_sign_sort s && bytes_eq u.text (codes "}")) e;
+  no_if = ap (λ s. is_key_sort s && bytes_eq u.text (codes "if")) e;
+  no_type = ap (λ s. is_key_sort s && is_among type_words u.text) e;
+}
+
+starts_by_text : (u : Token) (ts : List Token) → u.sort ≡ sort.Quoted → Starts (u ∷ ts)
+starts_by_text u ts e = record {
+  no_close = ap (λ s. is_sign_sort s && bytes_eq u.text (codes ")")) e;
+  no_block = ap (λ s. is_sign_sort s && bytes_eq u.text (codes "{")) e;
+  no_end = ap (λ s. is_sign_sort s && bytes_eq u.text (codes "}")) e;
+  no_if = ap (λ s. is_key_sort s && bytes_eq u.text (codes "if")) e;
+  no_type = ap (λ s. is_key_sort s && is_among type_words u.text) e;
+}
+
+unary_starts : {a : ExprTree} {ts us : List Token} → Unary a ts us → Starts ts
+unary_starts (g.cast {t = u} {ts = ts} op ty cl x) = starts_by_mark (codes "(") u ts op refl refl refl
+unary_starts (g.int {value = value} {t = u} {ts = ts} k) = starts_by_int u ts value k
+unary_starts (g.text {t = u} {ts = ts} k) = starts_by_text u ts k
+unary_starts (g.name {t = n} {ts = ts} e) = starts_by_name n ts e
+unary_starts (g.call {t = n} {u = u} {ts = ts} e op x) = starts_by_name n (u ∷ ts) e
+
+sum_starts : {a : ExprTree} {ts us : List Token} → Sum a ts us → Starts ts
+sum_starts (g.add x is y) = sum_starts x
+sum_starts (g.is_unary x) = unary_starts x
+
+comparison_starts : {a : ExprTree} {ts us : List Token} → Comparison a ts us → Starts ts
+comparison_starts (g.not_equal x is y) = comparison_starts x
+comparison_starts (g.is_sum x) = sum_starts x
+
+place_starts : {p : PlaceTree} {ts us : List Token} → APlace p ts us → Starts ts
+place_starts (g.variable {t = n} {ts = ts} e) = starts_by_name n ts e
+place_starts (g.st {t = n} {u = u} {ts = ts} e st op x cl) = starts_by_name n (u ∷ ts) e
+
+pub whole_starts : {a : ExprTree} {ts us : List Token} → Whole a ts us → Starts ts
+whole_starts (g.set p is x) = place_starts p
+whole_starts (g.is_comparison x) = comparison_starts x
+
+some_starts : {all : ExprTrees} {ts us : List Token} → g.Some all ts us → Starts ts
+some_starts (g.last x cl) = whole_starts x
+some_starts (g.more x cm y) = whole_starts x
+
+-- ---- types
+
+record StarsRead (n : ℕ) (ts us : List Token) : Type 0 where
+  count : count_stars ts ≡ n
+  rest : behind_stars ts ≡ us
+
+stars_read : {n : ℕ} {ts us : List Token} → Stars n ts us → Stop (codes "*") us → StarsRead n ts us
+stars_read (g.no_star {ts = []}) stop = record { count = refl; rest = refl }
+stars_read (g.no_star {ts = u ∷ us}) stop = record { count = ap (λ b. if b then count_stars us + 1 else 0) stop; rest = ap (λ b. if b then behind_stars us else u ∷ us) stop }
+stars_read (g.star {n = n} {t = u} {ts = ts} {us = us} is s) stop =
+    let more = stars_read s stop in
+    record {
+      count = ap (λ b. if b then count_stars ts + 1 else 0) is ∙ add-one (count_stars ts) ∙ ap suc more.count;
+      rest = ap (λ b. if b then behind_stars ts else u ∷ ts) is ∙ more.rest;
+    }
+
+module _ (file : FileOf) (last : ℕ) where
+  abbrev pub at : List Token → Input
+  at ts = record { rest = ts; file = file; last = last }
+
+  pub type_done : {to : CType} {ts us : List Token} → AType to ts us → Stop (codes "*") us → a_type (at ts) ≡ Ok (to, at us)
+  unfolding a_type a_type_word sees_type stars next spelling
+  type_done (g.type_word {t = u} {ts = ts} e s) stop = let r = stars_read s stop in rw (e, r.count, r.rest) refl
+
+  inner_unary : (room : ℕ) (a : ExprTree) (ts us : List Token) → height a ≤ room → ((m : ℕ) → height a ≤ m + 1 → unary (expr m) (at ts) ≡ Ok (found_of a, at us)) → expr room level.Unary (at ts) ≡ Ok (found_of a, at us)
+  unfolding expr
+  inner_unary zero a ts us h done = absurd (omega (arith, height_pos a))
+  inner_unary (suc m) a ts us h done = done m (omega arith)
+
+  inner_sum : (room : ℕ) (a : ExprTree) (ts us : List Token) → height a ≤ room → ((m : ℕ) → height a ≤ m + 1 → sum (expr m) m (at ts) ≡ Ok (found_of a, at us)) → expr room level.Sum (at ts) ≡ Ok (found_of a, at us)
+  unfolding expr
+  inner_sum zero a ts us h done = absurd (omega (arith, height_pos a))
+  inner_sum (suc m) a ts us h done = done m (omega arith)
+
+  inner_whole : (room : ℕ) (a : ExprTree) (ts us : List Token) → height a ≤ room → ((m : ℕ) → height a ≤ m + 1 → whole (expr m) m (at ts) ≡ Ok (found_of a, at us)) → expr room level.Whole (at ts) ≡ Ok (found_of a, at us)
+  unfolding expr
+  inner_whole zero a ts us h done = absurd (omega (arith, height_pos a))
+  inner_whole (suc m) a ts us h done = done m (omega arith)
+
+  -- reading has come to a chain's tree, and this many operators may still follow
+  abbrev Reaches : Outcome Found → ℕ → Level → ℕ → ExprTree → List Token → Type 0
+  Reaches read m operands line a us = (n : ℕ) × (m + 1 ≤ n + height a) × (read ≡ climb (expr m) m operands line n (found_of a) (at us))
+
+  -- no operator follows
+  stops : (m n : ℕ) (operands : Level) (line : ℕ) (a : ExprTree) (us : List Token) → operator operands (at us) ≡ None → climb (expr m) m operands line n (found_of a) (at us) ≡ Ok (found_of a, at us)
+  unfolding climb
+  stops m zero operands line a us e = rw e refl
+  stops m (suc n) operands line a us e = rw e refl
+
+  no_plus : (us : List Token) → Stop (codes "+") us → operator level.Unary (at us) ≡ None
+  unfolding operator sees
+  no_plus us e = rw e refl
+
+  no_not_equal : (us : List Token) → Stop (codes "!=") us → operator level.Sum (at us) ≡ None
+  unfolding operator sees
+  no_not_equal us e = rw e refl
+
+  plus_next : (u : Token) (us : List Token) → Is (codes "+") u → operator level.Unary (at (u ∷ us)) ≡ Some op.Add
+  unfolding operator sees
+  plus_next u us is = rw is refl
+
+  not_equal_next : (u : Token) (us : List Token) → Is (codes "!=") u → operator level.Sum (at (u ∷ us)) ≡ Some op.NotEqual
+  unfolding operator sees
+  not_equal_next u us is = rw is refl
+
+  low : (m h : ℕ) → h ≤ m → nat_lt m h ≡ false
+  low m h le = grind arith
+
+  -- one more operator
+  goes_on : (m : ℕ) (operands : Level) (o : BinaryOp) (line : ℕ) (a b : ExprTree) (u : Token) (us vs : List Token) (read : Outcome Found) → operator operands (at (u ∷ us)) ≡ Some o → height (t.Two line o a b) ≤ m + 1
+      → expr m operands (at us) ≡ Ok (found_of b, at vs) → Reaches read m operands line a (u ∷ us) → Reaches read m operands line (t.Two line o a b) vs
+  unfolding climb next
+  goes_on m operands o line a b u us vs read e h r p = from p.0 p.1 p.2
+    where
+      from : (n : ℕ) → m + 1 ≤ n + height a → read ≡ climb (expr m) m operands line n (found_of a) (at (u ∷ us)) → Reaches read m operands line (t.Two line o a b) vs
+      from zero le eq = absurd (omega arith)
+      from (suc n) le eq = (n, omega arith, eq ∙ rw (e, low m (height a) (omega arith), r) refl)
+
+  finish : (read : Outcome Found) (m : ℕ) (operands : Level) (line : ℕ) (a : ExprTree) (us : List Token) → operator operands (at us) ≡ None → Reaches read m operands line a us → read ≡ Ok (found_of a, at us)
+  finish read m operands line a us e r = r.2 ∙ stops m r.0 operands line a us e
+
+  sum_finish : (a : ExprTree) (ts us : List Token) (m : ℕ) → Stop (codes "+") us → Reaches (sum (expr m) m (at ts)) m level.Unary (line_of a) a us → sum (expr m) m (at ts) ≡ Ok (found_of a, at us)
+  sum_finish a ts us m plus r = finish (sum (expr m) m (at ts)) m level.Unary (line_of a) a us (no_plus us plus) r
+
+  max_none : (h : ℕ) → max h 0 ≡ h
+  max_none h = omega arith
+
+  none_max : (h : ℕ) → max 0 h ≡ h
+  none_max h = omega arith
+
+  max_assoc : (a b c : ℕ) → max (max a b) c ≡ max a (max b c)
+  max_assoc a b c = omega arith
+
+  -- a name is read as one
+  named_by : (m : ℕ) (s : Sort) (x : List ℕ) (l : ℕ) (ts : List Token) → is_name_by s x ≡ true → unary (expr m) (at (record { sort = s; text = x; line = l } ∷ ts)) ≡ named (expr m) l (at (record { sort = s; text = x; line = l } ∷ ts))
+  unfolding unary after sees sort_of sees_name line
+  named_by m sort.Name x l ts e = refl
+  named_by m sort.Key x l ts e = rw e refl
+  named_by m sort.Sign x l ts e = absurd cc
+  named_by m (sort.Numeral v) x l ts e = absurd cc
+  named_by m sort.OtherNumeral x l ts e = absurd cc
+  named_by m sort.Quoted x l ts e = absurd cc
+
+  -- the first operand, and what it stops at
+  abbrev FirstOf : ℕ → List Token → Type 0
+  FirstOf m ts = (u : ExprTree) × (js : List Token) × (unary (expr m) (at ts) ≡ Ok (found_of u, at js)) × Stop (codes "=") js
+
+  -- a place, read as an operand
+  abbrev PlaceRead : ℕ → PlaceTree → List Token → List Token → Type 0
+  PlaceRead m p ts us = (u : ExprTree) × (unary (expr m) (at ts) ≡ Ok (found_of u, at us)) × (place_of u ≡ Some p) × (height u ≡ place_height p)
+
+  -- where no assignment stands, a comparison is operands of a sum and of a comparison
+  by_sum : (m : ℕ) (ts : List Token) → FirstOf m ts → whole (expr m) m (at ts) ≡ and_then (sum (expr m) m (at ts)) (λ left. climb (expr m) m level.Sum (line_at last ts) m left)
+  unfolding whole comparison sum sees line
+  by_sum m ts f = rw (f.2, f.3) refl
+
+  set_done : (m : ℕ) (p : PlaceTree) (a u : ExprTree) (v : Token) (ts us vs : List Token) → unary (expr m) (at ts) ≡ Ok (found_of u, at (v ∷ us)) → Is (codes "=") v → place_of u ≡ Some p → height u ≡ place_height p
+      → line_at last ts ≡ line_of_place p → height (t.Set (line_of_place p) p a) ≤ m + 1 → expr m level.Whole (at us) ≡ Ok (found_of a, at vs) → whole (expr m) m (at ts) ≡ Ok (found_of (t.Set (line_of_place p) p a), at vs)
+  unfolding whole assignment sees line next
+  set_done m p a u v ts us vs r is place same first h value =
+      rw (r, is, place, low m (height u) (omega arith), value, same, first) refl
+
+  -- one argument
+  one_done : (m : ℕ) (a : ExprTree) (v : Token) (ts us : List Token) → Stop (codes ")") ts → Is (codes ")") v → 0 < length ts → expr m level.Whole (at ts) ≡ Ok (found_of a, at (v ∷ us))
+      → arguments (expr m) (at ts) ≡ Ok (record { trees = a ∷ []; height = height a }, at us)
+  unfolding arguments list list_from left after sees next expect
+  one_done m a v [] us no_close cl some r = absurd (omega arith)
+  one_done m a v (w ∷ ts) us no_close cl some r = rw (no_close, r, marks (codes ")") (codes ",") v cl, cl, none_max (height a)) refl
+
+  mutual
+    unfolding unary after sees next line sort_of spelling sees_name named sum arguments list list_from left expect cast
+
+    unary_done : {a : ExprTree} {ts us : List Token} → Unary a ts us → (m : ℕ) → height a ≤ m + 1 → Stop (codes "(") us → unary (expr m) (at ts) ≡ Ok (found_of a, at us)
+    unary_done (g.cast {to = to} {a = a} {t = n} {u = u} {ts = ts} {us = us} {vs = vs} op ty cl x) m h stop =
+        rw (op, type_done ty (marks (codes ")") (codes "*") u cl), cl, inner_unary m a us vs (omega arith) (λ k h'. unary_done x k h' stop)) refl
+    unary_done (g.int {value = value} {t = n} {ts = ts} k) m h stop = rw k refl
+    unary_done (g.text {t = n} {ts = ts} k) m h stop = rw k refl
+    unary_done (g.name {t = n} {ts = ts} e) m h stop = named_by m n.sort n.text n.line ts e ∙ rw stop refl
+    unary_done (g.call {args = args} {t = n} {u = u} {ts = ts} {us = us} e op x) m h stop =
+        named_by m n.sort n.text n.line (u ∷ ts) e ∙ rw (op, arguments_done x m (omega arith), exprs_of-list_of args) refl
+
+    sum_reach : {a : ExprTree} {ts us : List Token} → Sum a ts us → (m : ℕ) → height a ≤ m + 1 → Stop (codes "(") us → Reaches (sum (expr m) m (at ts)) m level.Unary (line_of a) a us
+    sum_reach (g.add {a = a} {b = b} {t = u} {ts = ts} {us = us} {vs = vs} x is y) m h stop =
+        goes_on m level.Unary op.Add (line_of a) a b u us vs (sum (expr m) m (at ts)) (plus_next u us is) h
+        (inner_unary m b us vs (omega arith) (λ n h'. unary_done y n h' stop)) (sum_reach x m (omega arith) (marks (codes "+") (codes "(") u is))
+    sum_reach (g.is_unary {a = a} {ts = ts} {us = us} x) m h stop = (m, omega (arith, height_pos a), rw (unary_done x m h stop, unary_line a ts us last x) refl)
+
+    comparison_reach : {a : ExprTree} {ts us : List Token} → Comparison a ts us → (m : ℕ) → height a ≤ m + 1 → Stop (codes "(") us → Stop (codes "+") us
+        → Reaches (and_then (sum (expr m) m (at ts)) (λ left. climb (expr m) m level.Sum (line_at last ts) m left)) m level.Sum (line_of a) a us
+    comparison_reach (g.not_equal {a = a} {b = b} {t = u} {ts = ts} {us = us} {vs = vs} x is y) m h stop plus =
+        goes_on m level.Sum op.NotEqual (line_of a) a b u us vs (and_then (sum (expr m) m (at ts)) (λ left. climb (expr m) m level.Sum (line_at last ts) m left)) (not_equal_next u us is) h
+        (inner_sum m b us vs (omega arith) (λ n h'. sum_finish b us vs n plus (sum_reach y n h' stop)))
+        (comparison_reach x m (omega arith) (marks (codes "!=") (codes "(") u is) (marks (codes "!=") (codes "+") u is))
+    comparison_reach (g.is_sum {a = a} {ts = ts} {us = us} x) m h stop plus = (m, omega (arith, height_pos a), rw (sum_finish a ts us m plus (sum_reach x m h stop), sum_line a ts us last x) refl)
+
+    first_of_sum : {a : ExprTree} {ts us : List Token} → Sum a ts us → (m : ℕ) → height a ≤ m + 1 → Stop (codes "(") us → Stop (codes "=") us → FirstOf m ts
+    first_of_sum (g.add {t = u} x is y) m h stop set = first_of_sum x m (omega arith) (marks (codes "+") (codes "(") u is) (marks (codes "+") (codes "=") u is)
+    first_of_sum (g.is_unary {a = a} {ts = ts} {us = us} x) m h stop set = (a, us, unary_done x m h stop, set)
+
+    first_of_comparison : {a : ExprTree} {ts us : List Token} → Comparison a ts us → (m : ℕ) → height a ≤ m + 1 → Stop (codes "(") us → Stop (codes "=") us → FirstOf m ts
+    first_of_comparison (g.not_equal {t = u} x is y) m h stop set = first_of_comparison x m (omega arith) (marks (codes "!=") (codes "(") u is) (marks (codes "!=") (codes "=") u is)
+    first_of_comparison (g.is_sum x) m h stop set = first_of_sum x m h stop set
+
+    place_done : {p : PlaceTree} {ts us : List Token} → APlace p ts us → (m : ℕ) → place_height p ≤ m + 1 → Stop (codes "(") us → PlaceRead m p ts us
+    place_done (g.variable {t = n} {ts = ts} e) m h stop = (t.Var n.line n.text, named_by m n.sort n.text n.line ts e ∙ rw stop refl, refl, refl)
+    place_done (g.st {a = a} {t = n} {u = u} {v = v} {ts = ts} {us = us} e st op x cl) m h stop = (
+      t.Call n.line n.text (t.MoreExprs a t.NoExprs),
+      named_by m n.sort n.text n.line (u ∷ ts) e ∙ rw (op, one_done m a v ts us ((whole_starts x).no_close) cl (omega (arith, whole_shrinks x)) (inner_whole m a ts (v ∷ us) (omega arith) (λ k h'. whole_done x k h' (closes v us cl))), max_none (height a)) refl,
+      ap (λ b. if b then Some (t.StPlace n.line a) else None) st,
+      ap (λ k. k + 1) (max_none (height a)),
+    )
+
+    pub whole_done : {a : ExprTree} {ts us : List Token} → Whole a ts us → (m : ℕ) → height a ≤ m + 1 → StopsWhole us → whole (expr m) m (at ts) ≡ Ok (found_of a, at us)
+    whole_done (g.set {p = p} {a = a} {t = v} {ts = ts} {us = us} {vs = vs} pl is x) m h stop =
+        let r = place_done pl m (omega arith) (marks (codes "=") (codes "(") v is) in
+        set_done m p a r.0 v ts us vs r.1 is r.2 r.3 (place_first p ts (v ∷ us) last pl) h (inner_whole m a us vs (omega arith) (λ n h'. whole_done x n h' stop))
+    whole_done (g.is_comparison {a = a} {ts = ts} {us = us} x) m h stop =
+        by_sum m ts (first_of_comparison x m h stop.no_call stop.no_set)
+        ∙ finish _ m level.Sum (line_of a) a us (no_not_equal us stop.no_not_equal) (comparison_reach x m h stop.no_call stop.no_plus)
+
+    arguments_done : {all : ExprTrees} {ts us : List Token} → Arguments all ts us → (m : ℕ) → heights all ≤ m → arguments (expr m) (at ts) ≡ Ok (record { trees = list_of all; height = heights all }, at us)
+    arguments_done (g.none cl) m h = rw cl refl
+    arguments_done (g.some {all = all} {ts = ts} {us = us} x) m h = rw ((some_starts x).no_close) (more_done x m h (length ts) (omega arith) (record { trees = []; height = 0 }) ∙ rw (none_max (heights all)) refl)
+
+    more_done : {all : ExprTrees} {ts us : List Token} → g.Some all ts us → (m : ℕ) → heights all ≤ m → (n : ℕ) → length ts ≤ n → (acc : FoundAll)
+        → list_from (expr m) n acc (at ts) ≡ Ok (record { trees = acc.trees ++ list_of all; height = max acc.height (heights all) }, at us)
+    more_done (g.last x cl) m h zero len acc = absurd (omega (arith, whole_shrinks x))
+    more_done (g.last {a = a} {u = u} {ts = ts} {us = us} x cl) m h (suc n) len acc =
+        rw (inner_whole m a ts (u ∷ us) (omega arith) (λ k h'. whole_done x k h' (closes u us cl)), marks (codes ")") (codes ",") u cl, cl, max_none (height a)) refl
+    more_done (g.more x cm y) m h zero len acc = absurd (omega (arith, whole_shrinks x))
+    more_done (g.more {a = a} {all = all} {u = u} {ts = ts} {us = us} {vs = vs} x cm y) m h (suc n) len acc =
+        rw (inner_whole m a ts (u ∷ us) (omega arith) (λ k h'. whole_done x k h' (parts_at u us cm)), cm)
+        (more_done y m (omega arith) n (omega (arith, whole_shrinks x)) (record { trees = acc.trees ++ a ∷ []; height = max acc.height (height a) })
+        ∙ rw (append_assoc acc.trees (a ∷ []) (list_of all), max_assoc acc.height (height a) (heights all)) refl)

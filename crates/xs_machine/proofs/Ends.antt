@@ -1,0 +1,296 @@
+-- Each step leaves less to be done, so a run ends, and all runs from one state end in one.
+use Rattle.std.proofs.Common.{◌≡◌, ℕ, zero, suc, ◌+◌, ◌*◌, ◌<◌, ◌≤◌, Bool, true, false, cond, List, [], ◌∷◌, refl, sym, ap, ◌∙◌, arith, Option, Some, None}
+use Rattle.std.specs.Prelude.{slice_index_or, slice_get, nat_lt, length}
+use Rattle.std.proofs.Math.Nat.{mul-le-mul_right}
+use Rattle.std.specs.Prelude.{Result, Ok, Err}
+use Rattle.xs_values.specs.Numbers.{Number, calculated}
+use Rattle.xs_values.specs.declared.operator.Op.{Op}
+use Rattle.xs_values.specs.declared.trap.Trap.{Trap}
+use Rattle.xs_values.specs.declared.trap.Trap.TheVariants as trap
+use Rattle.xs_machine.specs.declared.api.Abrupt.{Abrupt}
+use Rattle.xs_machine.specs.declared.api.Abrupt.TheVariants.{Returns, Croaks, Traps, Spent}
+use Rattle.xs_machine.specs.declared.api.Operand.{Operand}
+use Rattle.xs_machine.specs.declared.api.Operand.TheVariants.{Unset, Num, Scalar, Void}
+use Rattle.xs_machine.specs.declared.stacks.Depths.{Depths}
+use Rattle.xs_machine.specs.Tree.{XsEnd, Tree, Literal, Variable, ItemCount, Assign, Binary, Convert, ApiRow, Block, If, Forget, Declare, NoTrees, MoreTrees, tree_count, Function, Code}
+use Rattle.xs_machine.specs.World.{World, Swept, Clean, Dirty, depths_of}
+use Rattle.xs_machine.specs.State.{State, Out, Done, Stop, Prims, Effect, Gives, Ends, tick, lift, read_value, assigned, write_var, assign_as, given, calculate, item_count, operate, convert, truth_of}
+use Rattle.xs_machine.specs.Rows.{counted_rows, most_items}
+use Rattle.xs_machine.specs.Cmean.{meaning}
+use Rattle.xs_machine.specs.Machine.{Work, DoTree, DoTrees, DoBlock, SetVar, Operate, ConvertTop, DoRow, Branch, ForgetTop, DropTop, Enter, Leave, Mach, taken, undefined_text, run_on, halt, on_top, unwind, at_leave, swept_to, land, fall_off, branch_on, entered, enter, act_tree, act, step_at, step, steps, tree_size, all_size, entry_size, left, run, function_at, call_meaning, call_over, is_over, begun_with, begun_state}
+use Rattle.xs_machine.specs.declared.machine.Outcome.TheVariants as outcome
+use Rattle.xs_machine.specs.Law.{CallMeans, RunEnds}
+use Rattle.xs_machine.proofs.Follows.{Comes, comes_on, comes_by, comes_at, tree_follows}
+
+-- how much the entry of a function brings
+abbrev option_size : Option Function → ℕ
+option_size None = 1
+option_size (Some f) = tree_size f.body + 1
+
+-- the entry of a function of the file brings no more than the entry of any
+function_size : (all : List Function) (f : ℕ) → option_size (slice_get all f) ≤ entry_size all
+function_size [] f = omega arith
+function_size (h ∷ all) zero = omega arith
+function_size (h ∷ all) (suc f) = omega (arith, function_size all f)
+
+entry_size-pos : (all : List Function) → 1 ≤ entry_size all
+entry_size-pos [] = omega arith
+entry_size-pos (f ∷ all) = omega (arith, entry_size-pos all)
+
+callee_size : (code : Code) (f : Option ℕ) → option_size (function_at code f) ≤ entry_size code.functions
+callee_size code None = entry_size-pos code.functions
+callee_size code (Some f) = function_size code.functions f
+
+-- a product that falls, with what is added to it
+falls : (t u b s r : ℕ) → u ≤ t → r < s → u * b + r < t * b + s
+falls t u b s r h less = omega (arith, mul-le-mul_right b h, less)
+
+falls_turn : (t b s r : ℕ) → r < b + s → t * b + r < suc t * b + s
+falls_turn t b s r less = omega (arith, less)
+
+abbrev turns_of : {S : Type 0} {A : Type 0} → Out S A → ℕ
+turns_of (Done a σ) = σ.turns
+turns_of (Stop a σ) = σ.turns
+
+module _ {S : Type 0} (P : Prims S) (code : Code) where
+  -- no more turns than these, and no more work than this
+  record Below (m : Mach S) (t s : ℕ) : Type 0 where
+    turns : m.state.turns ≤ t
+    size : all_size m.pending ≤ s
+
+  abbrev most : ℕ
+  most = entry_size code.functions
+
+  less_left : (m : Mach S) (t s size : ℕ) → Below m t s → s < size → left code m < t * most + size
+  less_left m t s size b h = falls t m.state.turns most size (all_size m.pending) b.turns (omega (arith, b.size, h))
+
+  swept_below : (text : List ℕ) (w : Swept S) (σ : State S) → Below (swept_to text w σ) σ.turns 0
+  swept_below text (Clean s) σ = record { turns = omega arith; size = omega arith }
+  swept_below text (Dirty t s) σ = record { turns = omega arith; size = omega arith }
+
+  leave_below : (a : Abrupt) (d : Depths) (σ : State S) → Below (at_leave P a d σ) σ.turns 0
+  leave_below (Returns names) d σ = record { turns = omega arith; size = omega arith }
+  leave_below (Croaks text) d σ = swept_below text (P.cut d σ.store) σ
+  leave_below (Traps t) d σ = record { turns = omega arith; size = omega arith }
+  leave_below Spent d σ = record { turns = omega arith; size = omega arith }
+
+  unwind_below : (a : Abrupt) (k : List Work) (σ : State S) → Below (unwind P a k σ) σ.turns 0
+  unwind_below a [] σ = record { turns = omega arith; size = omega arith }
+  unwind_below a (Leave d ∷ k) σ = leave_below a d σ
+  unwind_below a (DoTree t ∷ k) σ = unwind_below a k σ
+  unwind_below a (DoTrees ts ∷ k) σ = unwind_below a k σ
+  unwind_below a (DoBlock ts ∷ k) σ = unwind_below a k σ
+  unwind_below a (SetVar x t ∷ k) σ = unwind_below a k σ
+  unwind_below a (Operate op ∷ k) σ = unwind_below a k σ
+  unwind_below a (ConvertTop kind ∷ k) σ = unwind_below a k σ
+  unwind_below a (DoRow r n ∷ k) σ = unwind_below a k σ
+  unwind_below a (Branch s t ∷ k) σ = unwind_below a k σ
+  unwind_below a (ForgetTop ∷ k) σ = unwind_below a k σ
+  unwind_below a (DropTop ∷ k) σ = unwind_below a k σ
+  unwind_below a (Enter f ∷ k) σ = unwind_below a k σ
+
+  -- less is left once all work is over
+  over_left : (m : Mach S) (t size : ℕ) → Below m t 0 → 0 < size → left code m < t * most + size
+  over_left m t size b h = less_left m t 0 size b h
+
+  -- an outcome of a part, with the work behind it
+  land_left : (k : List Work) (vs : List Operand) (o : Out S Operand) (t size : ℕ) → turns_of o ≤ t → all_size k < size → left code (land P ◌∷◌ k vs o) < t * most + size
+  land_left k vs (Done v σ) t size h less = less_left (run_on k (v ∷ vs) σ) t (all_size k) size (record { turns = h; size = omega arith }) less
+  land_left k vs (Stop a σ) t size h less = let b = unwind_below a k σ in over_left (unwind P a k σ) t size (record { turns = omega (arith, b.turns, h); size = b.size }) (omega (arith, less))
+
+  simple : (k k1 : List Work) (vs : List Operand) (σ σ1 : State S) → σ1.turns ≤ σ.turns → all_size k1 < all_size k → left code (run_on k1 vs σ1) < σ.turns * most + all_size k
+  simple k k1 vs σ σ1 ht hs = less_left (run_on k1 vs σ1) σ.turns (all_size k1) (all_size k) (record { turns = ht; size = omega arith }) hs
+
+  top_left : (vs : List Operand) (σ : State S) (go : Operand → List Operand → Mach S) (size : ℕ) → 0 < size → ((v : Operand) (rest : List Operand) → left code (go v rest) < σ.turns * most + size) → left code (on_top vs σ go) < σ.turns * most + size
+  top_left [] σ go size h f = over_left (on_top [] σ go) σ.turns size (record { turns = omega arith; size = omega arith }) h
+  top_left (v ∷ vs) σ go size h f = f v vs
+
+  lift_turns : (e : Effect S) (σ : State S) → turns_of (lift e σ) ≤ σ.turns
+  lift_turns (Gives v f s) σ = omega arith
+  lift_turns (Ends a f s) σ = omega arith
+
+  read_turns : (v : Operand) (σ : State S) → turns_of (read_value v σ) ≤ σ.turns
+  read_turns Unset σ = omega arith
+  read_turns (Num n) σ = omega arith
+  read_turns (Scalar p) σ = omega arith
+  read_turns Void σ = omega arith
+
+  assign_turns : (v : Option Operand) (x : ℕ) (σ : State S) → turns_of (assign_as v x σ) ≤ σ.turns
+  assign_turns None x σ = omega arith
+  assign_turns (Some v) x σ = omega arith
+
+  given_turns : (v : Option Operand) (σ : State S) → turns_of (given v σ) ≤ σ.turns
+  given_turns None σ = omega arith
+  given_turns (Some v) σ = omega arith
+
+  calculate_turns : (r : Result Number Trap) (σ : State S) → turns_of (calculate r σ) ≤ σ.turns
+  calculate_turns (Ok n) σ = omega arith
+  calculate_turns (Err t) σ = omega arith
+
+  operate_turns : (op : Op) (v u : Operand) (σ : State S) → turns_of (operate op v u σ) ≤ σ.turns
+  operate_turns op (Num a) (Num b) σ = calculate_turns (calculated op a b) σ
+  operate_turns op (Num a) Unset σ = omega arith
+  operate_turns op (Num a) (Scalar p) σ = omega arith
+  operate_turns op (Num a) Void σ = omega arith
+  operate_turns op Unset v σ = omega arith
+  operate_turns op (Scalar p) v σ = omega arith
+  operate_turns op Void v σ = omega arith
+
+  branch_left : (b : Option Bool) (x y : Tree) (k : List Work) (vs : List Operand) (σ : State S) → left code (branch_on P b x y k vs σ) < σ.turns * most + all_size (Branch x y ∷ k)
+  branch_left None x y k vs σ = over_left _ σ.turns (all_size (Branch x y ∷ k)) (unwind_below (Traps trap.Kind) k σ) (omega arith)
+  branch_left (Some true) x y k vs σ = simple (Branch x y ∷ k) (DoTree x ∷ k) vs σ σ (omega arith) (omega arith)
+  branch_left (Some false) x y k vs σ = simple (Branch x y ∷ k) (DoTree y ∷ k) vs σ σ (omega arith) (omega arith)
+
+  enter_turn : (turns : ℕ) (f : Function) (k : List Work) (σ : State S) (size : ℕ) → σ.turns ≡ turns → tree_size f.body + 1 ≤ most → all_size k < size → left code (tick turns (unwind P Spent k σ) (λ t. run_on (DoTree f.body ∷ DropTop ∷ k) [] (entered f t σ))) < turns * most + size
+  enter_turn zero f k σ size e h less = let b = unwind_below Spent k σ in over_left (unwind P Spent k σ) zero size (record { turns = omega (arith, b.turns, e); size = b.size }) (omega (arith, less))
+  enter_turn (suc t) f k σ size e h less = falls_turn t most size (all_size (DoTree f.body ∷ DropTop ∷ k)) (omega (arith, h, less))
+
+  enter_left : (f : Option Function) (k : List Work) (σ : State S) (size : ℕ) → option_size f ≤ most → all_size k < size → left code (enter P f k σ) < σ.turns * most + size
+  enter_left None k σ size h less = over_left _ σ.turns size (unwind_below (Croaks (undefined_text σ.frame.called)) k σ) (omega (arith, less))
+  enter_left (Some f) k σ size h less = enter_turn σ.turns f k σ size refl h less
+
+  fall_left : (d : Depths) (o : Out S Operand) (t size : ℕ) → turns_of o ≤ t → 0 < size → left code (fall_off P d o) < t * most + size
+  fall_left d (Done v σ) t size h less = over_left (fall_off P d (Done v σ)) t size (record { turns = h; size = omega arith }) less
+  fall_left d (Stop a σ) t size h less = let b = leave_below a d σ in over_left (at_leave P a d σ) t size (record { turns = omega (arith, b.turns, h); size = b.size }) less
+
+  tree_left : (t : Tree) (k : List Work) (vs : List Operand) (σ : State S) → left code (act_tree P t k vs σ) < σ.turns * most + all_size (DoTree t ∷ k)
+  tree_left (Literal n) k vs σ = simple (DoTree (Literal n) ∷ k) k (Num n ∷ vs) σ σ (omega arith) (omega arith)
+  tree_left (Variable x) k vs σ = land_left k vs (read_value (slice_index_or σ.vars x Unset) σ) σ.turns (all_size (DoTree (Variable x) ∷ k)) (read_turns _ σ) (omega arith)
+  tree_left ItemCount k vs σ = simple (DoTree ItemCount ∷ k) k (item_count σ ∷ vs) σ σ (omega arith) (omega arith)
+  tree_left (Assign x t e) k vs σ = simple (DoTree (Assign x t e) ∷ k) (DoTree e ∷ SetVar x t ∷ k) vs σ σ (omega arith) (omega arith)
+  tree_left (Binary op a b) k vs σ = simple (DoTree (Binary op a b) ∷ k) (DoTree a ∷ DoTree b ∷ Operate op ∷ k) vs σ σ (omega arith) (omega arith)
+  tree_left (Convert kind e) k vs σ = simple (DoTree (Convert kind e) ∷ k) (DoTree e ∷ ConvertTop kind ∷ k) vs σ σ (omega arith) (omega arith)
+  tree_left (ApiRow r xs) k vs σ = simple (DoTree (ApiRow r xs) ∷ k) (DoTrees xs ∷ DoRow r (tree_count xs) ∷ k) vs σ σ (omega arith) (omega arith)
+  tree_left (Block ts) k vs σ = simple (DoTree (Block ts) ∷ k) (DoBlock ts ∷ k) vs σ σ (omega arith) (omega arith)
+  tree_left (If e a b) k vs σ = simple (DoTree (If e a b) ∷ k) (DoTree e ∷ Branch a b ∷ k) vs σ σ (omega arith) (omega arith)
+  tree_left (Forget e) k vs σ = simple (DoTree (Forget e) ∷ k) (DoTree e ∷ ForgetTop ∷ k) vs σ σ (omega arith) (omega arith)
+  tree_left (Declare x) k vs σ = simple (DoTree (Declare x) ∷ k) k (Void ∷ vs) σ (write_var x Unset σ) (omega arith) (omega arith)
+
+  act_left : (w : Work) (k : List Work) (vs : List Operand) (σ : State S) → left code (act P code w k vs σ) < σ.turns * most + all_size (w ∷ k)
+  act_left (DoTree t) k vs σ = tree_left t k vs σ
+  act_left (DoTrees NoTrees) k vs σ = simple (DoTrees NoTrees ∷ k) k vs σ σ (omega arith) (omega arith)
+  act_left (DoTrees (MoreTrees t ts)) k vs σ = simple (DoTrees (MoreTrees t ts) ∷ k) (DoTree t ∷ DoTrees ts ∷ k) vs σ σ (omega arith) (omega arith)
+  act_left (DoBlock NoTrees) k vs σ = simple (DoBlock NoTrees ∷ k) k (Void ∷ vs) σ σ (omega arith) (omega arith)
+  act_left (DoBlock (MoreTrees t ts)) k vs σ = simple (DoBlock (MoreTrees t ts) ∷ k) (DoTree t ∷ DropTop ∷ DoBlock ts ∷ k) vs σ σ (omega arith) (omega arith)
+  act_left (SetVar x t) k vs σ = top_left vs σ _ (all_size (SetVar x t ∷ k)) (omega arith) (λ v rest. land_left k rest (assign_as (assigned t v) x σ) σ.turns (all_size (SetVar x t ∷ k)) (assign_turns (assigned t v) x σ) (omega arith))
+  act_left (Operate op) k vs σ =
+      top_left vs σ _ (all_size (Operate op ∷ k)) (omega arith) (λ u rest.
+      top_left rest σ _ (all_size (Operate op ∷ k)) (omega arith) (λ v rest1. land_left k rest1 (operate op v u σ) σ.turns (all_size (Operate op ∷ k)) (operate_turns op v u σ) (omega arith)))
+  act_left (ConvertTop kind) k vs σ = top_left vs σ _ (all_size (ConvertTop kind ∷ k)) (omega arith) (λ v rest. land_left k rest (convert kind v σ) σ.turns (all_size (ConvertTop kind ∷ k)) (given_turns _ σ) (omega arith))
+  act_left (DoRow r n) k vs σ = land_left k (taken n [] vs).1 (lift (P.row r (taken n [] vs).0 σ.frame σ.store) σ) σ.turns (all_size (DoRow r n ∷ k)) (lift_turns (P.row r (taken n [] vs).0 σ.frame σ.store) σ) (omega arith)
+  act_left (Branch a b) k vs σ = top_left vs σ _ (all_size (Branch a b ∷ k)) (omega arith) (λ v rest. branch_left (truth_of v) a b k rest σ)
+  act_left ForgetTop k vs σ = top_left vs σ _ (all_size (ForgetTop ∷ k)) (omega arith) (λ v rest. simple (ForgetTop ∷ k) k (Void ∷ rest) σ σ (omega arith) (omega arith))
+  act_left DropTop k vs σ = top_left vs σ _ (all_size (DropTop ∷ k)) (omega arith) (λ v rest. simple (DropTop ∷ k) k rest σ σ (omega arith) (omega arith))
+  act_left (Enter f) k vs σ = enter_left (function_at code f) k σ (all_size (Enter f ∷ k)) (callee_size code f) (omega arith)
+  act_left (Leave d) k vs σ = fall_left d (lift (P.row XsEnd [] σ.frame σ.store) σ) σ.turns (all_size (Leave d ∷ k)) (lift_turns (P.row XsEnd [] σ.frame σ.store) σ) (omega arith)
+
+  step_of_pending : (k : List Work) (m : Mach S) → m.pending ≡ k → (k ≡ [] → ⊥) → left code (step P code m) < left code m
+  step_of_pending [] m e h = absurd (h refl)
+  step_of_pending (w ∷ k) m e h =
+      let goes : step P code m ≡ act P code w k m.operands m.state = ap (λ l. step_at P code l m) e in
+      let now : left code m ≡ m.state.turns * most + all_size (w ∷ k) = ap (λ l. m.state.turns * most + all_size l) e in
+      omega (arith, act_left w k m.operands m.state, ap (left code) goes, now)
+
+  -- a step leaves less
+  pub step_left : (m : Mach S) → (m.pending ≡ [] → ⊥) → left code (step P code m) < left code m
+  step_left m h = step_of_pending m.pending m refl h
+
+  -- one step more
+  pub steps_more : (j : ℕ) (m : Mach S) → steps P code (suc j) m ≡ step P code (steps P code j m)
+  steps_more zero m = refl
+  steps_more (suc j) m = steps_more j (step P code m)
+
+  -- a run that is over stays over
+  pub stays : (j : ℕ) (m : Mach S) → m.pending ≡ [] → steps P code j m ≡ m
+  stays zero m e = refl
+  stays (suc j) m e = let same : step P code m ≡ m = ap (λ l. step_at P code l m) e in ap (steps P code j) same ∙ stays j m e
+
+  -- so two ends of one run are the same
+  pub one_end : (i j : ℕ) (m : Mach S) → (steps P code i m).pending ≡ [] → (steps P code j m).pending ≡ [] → steps P code i m ≡ steps P code j m
+  one_end zero j m e f = sym (stays j m e)
+  one_end (suc i) zero m e f = stays (suc i) m f
+  one_end (suc i) (suc j) m e f = one_end i j (step P code m) e f
+
+  ends_pending : (k : List Work) (n : ℕ) (m : Mach S) → m.pending ≡ k → left code m ≤ n → (steps P code n m).pending ≡ []
+  ends_pending [] n m e h = ap (λ (x : Mach S). x.pending) (stays n m e) ∙ e
+  ends_pending (w ∷ k) zero m e h = let less = step_of_pending (w ∷ k) m e (λ q. cc) in absurd (omega (arith, h, less))
+  ends_pending (w ∷ k) (suc n) m e h = let less = step_of_pending (w ∷ k) m e (λ q. cc) in ends_pending (step P code m).pending n (step P code m) refl (omega (arith, h, less))
+
+  -- as many steps as are left end a run
+  pub ends : (m : Mach S) → (steps P code (left code m) m).pending ≡ []
+  ends m = ends_pending m.pending (left code m) m refl (omega arith)
+
+  -- ---- the steps of a loop
+
+  pub smaller : (code1 : Code) (m m1 : Mach S) → code1 ≡ code → m1 ≡ step P code m → (m.pending ≡ [] → ⊥) → left code1 m1 < left code m
+  smaller code1 m m1 e goes h =
+      let same : left code1 m1 ≡ left code (step P code m) = ap (λ f. left f m1) e ∙ ap (left code) goes in
+      omega (arith, step_left m h, same)
+
+  pub one_more : (code1 : Code) (j : ℕ) (m0 m m1 : Mach S) → code1 ≡ code → m ≡ steps P code j m0 → m1 ≡ step P code1 m → (x : ℕ) × (m1 ≡ steps P code x m0)
+  one_more code1 j m0 m m1 e runs goes = (suc j, goes ∙ ap (λ f. step P f m) e ∙ ap (step P code) runs ∙ sym (steps_more j m0))
+
+  -- a run that is over has come as far as it can
+  pub run_reached : (m0 m : Mach S) (j : ℕ) → m ≡ steps P code j m0 → m.pending ≡ [] → m ≡ steps P code (left code m0) m0
+  run_reached m0 m j e over = e ∙ one_end j (left code m0) m0 (ap (λ (x : Mach S). x.pending) (sym e) ∙ over) (ends m0)
+
+  -- ---- a call
+
+  swept_ended : (text : List ℕ) (w : Swept S) (σ : State S) → (swept_to text w σ).pending ≡ []
+  swept_ended text (Clean s) σ = refl
+  swept_ended text (Dirty t s) σ = refl
+
+  leave_ended : (a : Abrupt) (d : Depths) (σ : State S) → (at_leave P a d σ).pending ≡ []
+  leave_ended (Returns names) d σ = refl
+  leave_ended (Croaks text) d σ = swept_ended text (P.cut d σ.store) σ
+  leave_ended (Traps t) d σ = refl
+  leave_ended Spent d σ = refl
+
+  fall_ended : (d : Depths) (o : Out S Operand) → (fall_off P d o).pending ≡ []
+  fall_ended d (Done v σ) = refl
+  fall_ended d (Stop a σ) = leave_ended a d σ
+
+  over_ended : (d : Depths) (o : Out S Operand) → (call_over P code d o).pending ≡ []
+  over_ended d (Done v σ) = fall_ended d (lift (P.row XsEnd [] σ.frame σ.store) σ)
+  over_ended d (Stop a σ) = leave_ended a d σ
+
+  -- behind a function's body
+  body_over : (m : Mach S) (d : Depths) (o : Out S Operand) → Comes P code m (land P ◌∷◌ (DropTop ∷ Leave d ∷ []) [] o) → Comes P code m (call_over P code d o)
+  body_over m d (Done v σ) c = comes_by P code m _ _ c (comes_on P code _ _ (comes_on P code _ _ (comes_at P code _ _ refl)))
+  body_over m d (Stop a σ) c = c
+
+  ticks : (turns : ℕ) (f : Function) (d : Depths) (σ : State S) → Comes P code (tick turns (unwind P Spent (Leave d ∷ []) σ) (λ t. run_on (DoTree f.body ∷ DropTop ∷ Leave d ∷ []) [] (entered f t σ))) (call_over P code d (tick turns (Stop Spent σ) (λ t. meaning P f.body (entered f t σ))))
+  ticks zero f d σ = comes_at P code _ _ refl
+  ticks (suc t) f d σ = body_over _ d (meaning P f.body (entered f t σ)) (tree_follows P code f.body (DropTop ∷ Leave d ∷ []) [] (entered f t σ))
+
+  enters : (f : Option Function) (d : Depths) (σ : State S) → Comes P code (enter P f (Leave d ∷ []) σ) (call_over P code d (call_meaning P code f σ))
+  enters None d σ = comes_at P code _ _ refl
+  enters (Some f) d σ = ticks σ.turns f d σ
+
+  -- the steps of a call come to where its meaning says
+  pub call_comes : (f : Option ℕ) (d : Depths) (σ : State S) → Comes P code (run_on (Enter f ∷ Leave d ∷ []) [] σ) (call_over P code d (call_meaning P code (function_at code f) σ))
+  call_comes f d σ = comes_on P code _ _ (enters (function_at code f) d σ)
+
+  -- a run that is over stands where it comes
+  pub run_is : (m m1 : Mach S) → Comes P code m m1 → m1.pending ≡ [] → steps P code (left code m) m ≡ m1
+  run_is m m1 c e =
+      let at = c.by 0 in
+      one_end (left code m) at.0 m (ends m) (ap (λ (x : Mach S). x.pending) at.1 ∙ e) ∙ at.1
+
+  pub run_over : (f : Option ℕ) (d : Depths) (σ : State S) → steps P code (left code (run_on (Enter f ∷ Leave d ∷ []) [] σ)) (run_on (Enter f ∷ Leave d ∷ []) [] σ) ≡ call_over P code d (call_meaning P code (function_at code f) σ)
+  run_over f d σ = run_is _ _ (call_comes f d σ) (over_ended d (call_meaning P code (function_at code f) σ))
+
+at_limit : (code : Code) (large : Bool) (sub : List ℕ) (f : Option ℕ) (args : List ℕ) (turns : ℕ) (m : Mach World) → run code (cond large (halt (outcome.Trapped trap.Large) m.state) (begun_with sub f args turns m.state)) ≡ cond large (halt (outcome.Trapped trap.Large) m.state) (call_over counted_rows code (depths_of m.state.store) (call_meaning counted_rows code (function_at code f) (begun_state sub args turns m.state)))
+at_limit code true sub f args turns m = stays counted_rows code (left code (halt (outcome.Trapped trap.Large) m.state)) (halt (outcome.Trapped trap.Large) m.state) refl
+at_limit code false sub f args turns m = run_over counted_rows code f (depths_of m.state.store) (begun_state sub args turns m.state)
+
+at_end : (code : Code) (over : Bool) (sub : List ℕ) (f : Option ℕ) (args : List ℕ) (turns : ℕ) (m begun met : Mach World) → m.pending ≡ [] → run code begun ≡ met → run code (cond over m begun) ≡ cond over m met
+at_end code true sub f args turns m begun met idle e = stays counted_rows code (left code m) m idle
+at_end code false sub f args turns m begun met idle e = e
+
+pub call_means : (code : Code) → CallMeans code
+call_means code sub f args turns m idle =
+    at_end code (is_over m.stopped) sub f args turns m _ _ idle (at_limit code (nat_lt most_items (m.state.store.top + length args)) sub f args turns m)
+
+pub run_ends : (code : Code) → RunEnds code
+run_ends code m = ends counted_rows code m

@@ -1,0 +1,55 @@
+-- A vector as a stack, whose top is its last element.
+use Rattle.std.proofs.Common.{◌≡◌, ℕ, zero, suc, ◌+◌, ◌-◌, List, [], ◌∷◌, ◌++◌, length, take, drop, reverse, refl, sym, ap, ◌∙◌, ⊎_elim, arith, append-nil, append_assoc, length-drop}
+use Rattle.std.proofs.lemmas.Bool.{cases_lt}
+use Rattle.xs_machine.specs.declared.api.Operand.{Operand}
+use Rattle.xs_machine.specs.Machine.{taken}
+use Rattle.std.proofs.lemmas.List.{reverse-append, reverse-reverse, length-reverse, take-append-drop}
+
+drop-front : {T : Type 0} (a b : List T) → drop (length a) (a ++ b) ≡ b
+drop-front [] b = refl
+drop-front (x ∷ a) b = drop-front a b
+
+-- the lowest items
+pub cut-reverse : {T : Type 0} (xs : List T) (h : ℕ) → reverse (take h xs) ≡ drop (length (reverse xs) - h) (reverse xs)
+cut-reverse xs h =
+    let low = reverse (take h xs) in
+    let top = reverse (drop h xs) in
+    let whole : reverse xs ≡ top ++ low = ap reverse (sym (take-append-drop h xs)) ∙ reverse-append (take h xs) (drop h xs) in
+    let high : length (reverse xs) - h ≡ length top = omega (arith, length-reverse xs, length-reverse (drop h xs), length-drop h xs) in
+    sym (ap (λ n. drop n (reverse xs)) high ∙ ap (drop (length top)) whole ∙ drop-front top low)
+
+-- more operands than there are
+taken_nil : (n : ℕ) (acc : List Operand) → taken n acc [] ≡ (acc, [])
+taken_nil zero acc = refl
+taken_nil (suc n) acc = refl
+
+-- the top part, whose last operand is on top
+taken_top : (r : List Operand) (n : ℕ) (acc vs : List Operand) → taken (length r + n) acc (r ++ vs) ≡ taken n (reverse r ++ acc) vs
+taken_top [] n acc vs = let e : 0 + n ≡ n = omega arith in ap (λ m. taken m acc vs) e
+taken_top (v ∷ r) n acc vs =
+    let e : length (v ∷ r) + n ≡ suc (length r + n) = omega arith in
+    ap (λ m. taken m acc (v ∷ r ++ vs)) e ∙ taken_top r n (v ∷ acc) vs
+    ∙ ap (λ l. taken n l vs) (sym (append_assoc (reverse r) (v ∷ []) acc) ∙ ap (λ l. l ++ acc) (sym (reverse-append (v ∷ []) r)))
+
+-- the n topmost operands, and the others
+pub taken_split : (s : List Operand) (n at : ℕ) → at ≡ length s - n → taken n [] (reverse s) ≡ (drop at s, reverse (take at s))
+taken_split s n at e =
+    let top = drop at s in
+    let low = take at s in
+    let whole : reverse s ≡ reverse top ++ reverse low = ap reverse (sym (take-append-drop at s)) ∙ reverse-append low top in
+    let back : reverse (reverse top) ++ [] ≡ top = append-nil _ ∙ reverse-reverse top in
+    let long = length-reverse top in
+    let size : length top ≡ length s - at = length-drop at s in
+    ap (λ l. taken n [] l) whole
+    ∙ ⊎_elim
+    (λ lt.
+    let k : n ≡ length (reverse top) + (n - length s) = omega arith in
+    let zero_at : at ≡ 0 = omega arith in
+    let none : low ≡ [] = ap (λ i. take i s) zero_at in
+    ap (λ m. taken m [] (reverse top ++ reverse low)) k ∙ taken_top (reverse top) (n - length s) [] (reverse low)
+    ∙ ap (λ l. taken (n - length s) l (reverse low)) back
+    ∙ ap (λ l. taken (n - length s) top (reverse l)) none ∙ taken_nil (n - length s) top ∙ ap (λ l. (top, reverse l)) (sym none))
+    (λ le.
+    let k : n ≡ length (reverse top) + 0 = omega arith in
+    ap (λ m. taken m [] (reverse top ++ reverse low)) k ∙ taken_top (reverse top) 0 [] (reverse low) ∙ ap (λ l. (l, reverse low)) back)
+    (cases_lt (length s) n)

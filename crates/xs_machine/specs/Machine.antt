@@ -1,0 +1,324 @@
+-- The machine, which works through a list of pending work one step at a time.
+use Rattle.std.specs.Prelude.{ℕ, zero, suc, ◌+◌, ◌*◌, max, Bool, true, false, cond, nat_lt, List, [], ◌∷◌, ◌++◌, length, take, replicate, Option, Some, None, slice_get, codes}
+use Rattle.xs_values.specs.declared.kind.Kind.{Kind}
+use Rattle.xs_values.specs.declared.operator.Op.{Op}
+use Rattle.xs_values.specs.declared.trap.Trap.TheVariants as trap
+use Rattle.xs_machine.specs.declared.api.Abrupt.{Abrupt}
+use Rattle.xs_machine.specs.declared.api.Abrupt.TheVariants.{Returns, Croaks, Traps, Spent}
+use Rattle.xs_machine.specs.declared.api.Operand.{Operand}
+use Rattle.xs_machine.specs.declared.api.Operand.TheVariants.{Unset, Num, Void}
+use Rattle.xs_machine.specs.declared.ccheck.ValueType.{ValueType}
+use Rattle.xs_machine.specs.declared.machine.Outcome.{Outcome}
+use Rattle.xs_machine.specs.declared.machine.Outcome.TheVariants as outcome
+use Rattle.xs_machine.specs.declared.stacks.Depths.{Depths}
+use Rattle.xs_machine.specs.Tree.{Row, XsEnd, Tree, Literal, Variable, ItemCount, Assign, Binary, Convert, ApiRow, Block, If, Forget, Declare, Trees, NoTrees, MoreTrees, tree_count, Function, Code}
+use Rattle.xs_machine.specs.World.{World, Swept, Clean, Dirty, depths_of, new_cells, registered, sweep}
+use Rattle.xs_machine.specs.State.{State, Out, Done, Stop, Prims, tick, lift, with_store, read_var, write_var, assigned, assign_as, item_count, operate, convert, truth_of}
+use Rattle.xs_machine.specs.Rows.{counted_rows, most_items}
+use Rattle.xs_machine.specs.Cmean.{meaning}
+
+-- A piece of pending work: a tree; operands; statements; what is done with the topmost operands; one of two trees; the entry of a
+-- function by its number, None where no function has the name; and the end of an XS function, with the heights of the stacks at its
+-- entry.
+pub data Work : Type 0 where
+  DoTree : Tree → Work
+  DoTrees : Trees → Work
+  DoBlock : Trees → Work
+  SetVar : ℕ → ValueType → Work
+  Operate : Op → Work
+  ConvertTop : Kind → Work
+  DoRow : Row → ℕ → Work
+  Branch : Tree → Tree → Work
+  ForgetTop : Work
+  DropTop : Work
+  Enter : Option ℕ → Work
+  Leave : Depths → Work
+
+-- The state of a run: the pending work with what is next at the front, the operands with the topmost at the front, what the run works
+-- on, and how the work that ended last came to its end.
+pub record Mach (S : Type 0) : Type 0 where
+  pub pending : List Work
+  pub operands : List Operand
+  pub state : State S
+  pub stopped : Outcome
+
+abbrev pub outcome_of : Abrupt → Outcome
+outcome_of (Returns names) = outcome.Returned names
+outcome_of (Croaks text) = outcome.Croaked text
+outcome_of (Traps t) = outcome.Trapped t
+outcome_of Spent = outcome.Spent
+
+-- the n topmost operands in the order in which they came, and the others
+abbrev pub taken : ℕ → List Operand → List Operand → List Operand × List Operand
+taken zero acc vs = (acc, vs)
+taken (suc n) acc [] = (acc, [])
+taken (suc n) acc (v ∷ vs) = taken n (v ∷ acc) vs
+
+-- the croak for a name that no function has
+abbrev pub undefined_text : List ℕ → List ℕ
+undefined_text name = codes "Undefined subroutine &" ++ name ++ codes " called"
+
+-- the function of a number
+abbrev pub function_at : Code → Option ℕ → Option Function
+function_at code None = None
+function_at code (Some f) = slice_get code.functions f
+
+module _ {S : Type 0} where
+  abbrev pub run_on : List Work → List Operand → State S → Mach S
+  run_on k vs σ = record { pending = k; operands = vs; state = σ; stopped = outcome.Returned [] }
+
+  -- the end of all work
+  abbrev pub halt : Outcome → State S → Mach S
+  halt o σ = record { pending = []; operands = []; state = σ; stopped = o }
+
+  -- the variables and the turns at the entry of a function
+  abbrev pub entered : Function → ℕ → State S → State S
+  entered f turns σ = record { vars = replicate f.slots Unset; frame = σ.frame; store = σ.store; turns = turns }
+
+  -- where operands are missing
+  abbrev pub short_of : State S → Mach S
+  short_of σ = halt (outcome.Trapped trap.Kind) σ
+
+  abbrev pub on_top : List Operand → State S → (Operand → List Operand → Mach S) → Mach S
+  on_top [] σ go = short_of σ
+  on_top (v ∷ vs) σ go = go v vs
+
+  -- the end of a sweep, behind a croak
+  abbrev pub swept_to : List ℕ → Swept S → State S → Mach S
+  swept_to text (Clean s) σ = halt (outcome.Croaked text) (with_store s σ)
+  swept_to text (Dirty t s) σ = halt (outcome.Trapped t) (with_store s σ)
+
+module _ {S : Type 0} (P : Prims S) where
+  -- A run leaves an XS function: a croak frees the temporaries that were made since its entry and cuts the stacks.
+  abbrev pub at_leave : Abrupt → Depths → State S → Mach S
+  at_leave (Returns names) d σ = halt (outcome.Returned names) σ
+  at_leave (Croaks text) d σ = swept_to text (P.cut d σ.store) σ
+  at_leave (Traps t) d σ = halt (outcome.Trapped t) σ
+  at_leave Spent d σ = halt outcome.Spent σ
+
+  -- drops pending work up to where the way out is taken
+  abbrev pub unwind : Abrupt → List Work → State S → Mach S
+  unwind a [] σ = halt (outcome_of a) σ
+  unwind a (Leave d ∷ k) σ = at_leave a d σ
+  unwind a (DoTree t ∷ k) σ = unwind a k σ
+  unwind a (DoTrees ts ∷ k) σ = unwind a k σ
+  unwind a (DoBlock ts ∷ k) σ = unwind a k σ
+  unwind a (SetVar x t ∷ k) σ = unwind a k σ
+  unwind a (Operate op ∷ k) σ = unwind a k σ
+  unwind a (ConvertTop kind ∷ k) σ = unwind a k σ
+  unwind a (DoRow r n ∷ k) σ = unwind a k σ
+  unwind a (Branch s t ∷ k) σ = unwind a k σ
+  unwind a (ForgetTop ∷ k) σ = unwind a k σ
+  unwind a (DropTop ∷ k) σ = unwind a k σ
+  unwind a (Enter f ∷ k) σ = unwind a k σ
+
+  -- where a run stands once its part is over: put says what the part leaves on the operands
+  abbrev pub land : {A : Type 0} → (A → List Operand → List Operand) → List Work → List Operand → Out S A → Mach S
+  land put k vs (Done a σ) = run_on k (put a vs) σ
+  land put k vs (Stop a σ) = unwind a k σ
+
+  -- the end of a function's body
+  abbrev pub fall_off : Depths → Out S Operand → Mach S
+  fall_off d (Done v σ) = halt (outcome.Returned []) σ
+  fall_off d (Stop a σ) = at_leave a d σ
+
+  abbrev pub branch_on : Option Bool → Tree → Tree → List Work → List Operand → State S → Mach S
+  branch_on None a b k vs σ = unwind (Traps trap.Kind) k σ
+  branch_on (Some true) a b k vs σ = run_on (DoTree a ∷ k) vs σ
+  branch_on (Some false) a b k vs σ = run_on (DoTree b ∷ k) vs σ
+
+  -- the entry of a function, which uses a turn; a name that no function has uses none
+  abbrev pub enter : Option Function → List Work → State S → Mach S
+  enter None k σ = unwind (Croaks (undefined_text σ.frame.called)) k σ
+  enter (Some f) k σ = tick σ.turns (unwind Spent k σ) (λ turns. run_on (DoTree f.body ∷ DropTop ∷ k) [] (entered f turns σ))
+
+  -- one tree
+  abbrev pub act_tree : Tree → List Work → List Operand → State S → Mach S
+  act_tree (Literal n) k vs σ = run_on k (Num n ∷ vs) σ
+  act_tree (Variable x) k vs σ = land ◌∷◌ k vs (read_var x σ)
+  act_tree ItemCount k vs σ = run_on k (item_count σ ∷ vs) σ
+  act_tree (Assign x t e) k vs σ = run_on (DoTree e ∷ SetVar x t ∷ k) vs σ
+  act_tree (Binary op a b) k vs σ = run_on (DoTree a ∷ DoTree b ∷ Operate op ∷ k) vs σ
+  act_tree (Convert kind e) k vs σ = run_on (DoTree e ∷ ConvertTop kind ∷ k) vs σ
+  act_tree (ApiRow r xs) k vs σ = run_on (DoTrees xs ∷ DoRow r (tree_count xs) ∷ k) vs σ
+  act_tree (Block ts) k vs σ = run_on (DoBlock ts ∷ k) vs σ
+  act_tree (If e a b) k vs σ = run_on (DoTree e ∷ Branch a b ∷ k) vs σ
+  act_tree (Forget e) k vs σ = run_on (DoTree e ∷ ForgetTop ∷ k) vs σ
+  act_tree (Declare x) k vs σ = run_on k (Void ∷ vs) (write_var x Unset σ)
+
+  module _ (code : Code) where
+    -- one piece of work
+    abbrev pub act : Work → List Work → List Operand → State S → Mach S
+    act (DoTree t) k vs σ = act_tree t k vs σ
+    act (DoTrees NoTrees) k vs σ = run_on k vs σ
+    act (DoTrees (MoreTrees t ts)) k vs σ = run_on (DoTree t ∷ DoTrees ts ∷ k) vs σ
+    act (DoBlock NoTrees) k vs σ = run_on k (Void ∷ vs) σ
+    act (DoBlock (MoreTrees t ts)) k vs σ = run_on (DoTree t ∷ DropTop ∷ DoBlock ts ∷ k) vs σ
+    act (SetVar x t) k vs σ = on_top vs σ (λ v rest. land ◌∷◌ k rest (assign_as (assigned t v) x σ))
+    act (Operate op) k vs σ = on_top vs σ (λ u rest. on_top rest σ (λ v rest1. land ◌∷◌ k rest1 (operate op v u σ)))
+    act (ConvertTop kind) k vs σ = on_top vs σ (λ v rest. land ◌∷◌ k rest (convert kind v σ))
+    act (DoRow r n) k vs σ = land ◌∷◌ k (taken n [] vs).1 (lift (P.row r (taken n [] vs).0 σ.frame σ.store) σ)
+    act (Branch a b) k vs σ = on_top vs σ (λ v rest. branch_on (truth_of v) a b k rest σ)
+    act ForgetTop k vs σ = on_top vs σ (λ v rest. run_on k (Void ∷ rest) σ)
+    act DropTop k vs σ = on_top vs σ (λ v rest. run_on k rest σ)
+    act (Enter f) k vs σ = enter (function_at code f) k σ
+    act (Leave d) k vs σ = fall_off d (lift (P.row XsEnd [] σ.frame σ.store) σ)
+
+    abbrev pub step_at : List Work → Mach S → Mach S
+    step_at [] m = m
+    step_at (w ∷ k) m = act w k m.operands m.state
+
+    -- One step. It changes nothing where no work is pending.
+    abbrev pub step : Mach S → Mach S
+    step m = step_at m.pending m
+
+    abbrev pub steps : ℕ → Mach S → Mach S
+    steps zero m = m
+    steps (suc n) m = steps n (step m)
+
+    -- What the call of a function means: its body's meaning, behind the turn that its entry uses.
+    abbrev pub call_meaning : Option Function → State S → Out S Operand
+    call_meaning None σ = Stop (Croaks (undefined_text σ.frame.called)) σ
+    call_meaning (Some f) σ = tick σ.turns (Stop Spent σ) (λ turns. meaning P f.body (entered f turns σ))
+
+    -- where the machine stands once a call is over
+    abbrev pub call_over : Depths → Out S Operand → Mach S
+    call_over d (Done v σ) = fall_off d (lift (P.row XsEnd [] σ.frame σ.store) σ)
+    call_over d (Stop a σ) = at_leave a d σ
+
+-- ---- how much work there is at most
+
+abbrev mutual
+  pub tree_size : Tree → ℕ
+  tree_size (Literal n) = 1
+  tree_size (Variable x) = 1
+  tree_size ItemCount = 1
+  tree_size (Assign x t e) = tree_size e + 2
+  tree_size (Binary op a b) = tree_size a + tree_size b + 2
+  tree_size (Convert kind e) = tree_size e + 2
+  tree_size (ApiRow r xs) = trees_size xs + 2
+  tree_size (Block ts) = trees_size ts + 1
+  tree_size (If e a b) = tree_size e + (tree_size a + tree_size b) + 2
+  tree_size (Forget e) = tree_size e + 2
+  tree_size (Declare x) = 1
+
+  pub trees_size : Trees → ℕ
+  trees_size NoTrees = 1
+  trees_size (MoreTrees t ts) = tree_size t + trees_size ts + 2
+
+abbrev pub work_size : Work → ℕ
+work_size (DoTree t) = tree_size t
+work_size (DoTrees ts) = trees_size ts
+work_size (DoBlock ts) = trees_size ts
+work_size (SetVar x t) = 1
+work_size (Operate op) = 1
+work_size (ConvertTop kind) = 1
+work_size (DoRow r n) = 1
+work_size (Branch a b) = tree_size a + tree_size b + 1
+work_size ForgetTop = 1
+work_size DropTop = 1
+work_size (Enter f) = 1
+work_size (Leave d) = 1
+
+abbrev pub all_size : List Work → ℕ
+all_size [] = 0
+all_size (w ∷ k) = work_size w + all_size k
+
+-- the most work that the entry of a function brings
+abbrev pub entry_size : List Function → ℕ
+entry_size [] = 1
+entry_size (f ∷ all) = max (tree_size f.body + 1) (entry_size all)
+
+-- more than the steps that are left
+abbrev pub left : {S : Type 0} → Code → Mach S → ℕ
+left code m = m.state.turns * entry_size code.functions + all_size m.pending
+
+-- ---- runs on counted scalars
+
+-- the runner's world: the immortals alone, empty stacks and no name registered
+abbrev pub new_world : World
+new_world = record { cells = new_cells; args = []; top = 0; marks = []; temps = []; scopes = []; names = [] }
+
+-- a machine that has run nothing
+abbrev pub loaded : Mach World
+loaded = record { pending = []; operands = []; state = record { vars = []; frame = record { called = []; base = 0; items = 0 }; store = new_world; turns = 0 }; stopped = outcome.Returned [] }
+
+abbrev pub step_of : Code → Mach World → Mach World
+step_of code m = step counted_rows code m
+
+-- steps until no work is pending
+abbrev pub run : Code → Mach World → Mach World
+run code m = steps counted_rows code (left code m) m
+
+-- whether a run came to an end after which nothing is run any more
+abbrev pub is_over : Outcome → Bool
+is_over (outcome.Returned names) = false
+is_over (outcome.Croaked text) = false
+is_over (outcome.Trapped t) = true
+is_over outcome.Spent = true
+is_over outcome.Memory = true
+
+-- the world with a mark and the arguments above it
+abbrev pub with_call : List ℕ → World → World
+with_call args w = record { cells = w.cells; args = take w.top w.args ++ args; top = w.top + length args; marks = w.top ∷ w.marks; temps = w.temps; scopes = w.scopes; names = w.names }
+
+-- the state at the beginning of a call
+abbrev pub begun_state : List ℕ → List ℕ → ℕ → State World → State World
+begun_state sub args turns σ = record { vars = []; frame = record { called = sub; base = 0; items = 0 }; store = with_call args σ.store; turns = turns }
+
+abbrev pub begun_with : List ℕ → Option ℕ → List ℕ → ℕ → State World → Mach World
+begun_with sub f args turns σ = run_on (Enter f ∷ Leave (depths_of σ.store) ∷ []) [] (begun_state sub args turns σ)
+
+-- The entry of a function under a name is made the pending work. More items than the argument list may have trap Large.
+abbrev pub begun_at : List ℕ → Option ℕ → List ℕ → ℕ → Mach World → Mach World
+begun_at sub f args turns m =
+    cond (is_over m.stopped) m
+    (cond (nat_lt most_items (m.state.store.top + length args)) (halt (outcome.Trapped trap.Large) m.state) (begun_with sub f args turns m.state))
+
+-- the entry of the function that is registered under a name
+abbrev pub begun : List ℕ → List ℕ → ℕ → Mach World → Mach World
+begun sub args turns m = begun_at sub (registered sub m.state.store.names) args turns m
+
+-- the number of the boot function, and its name
+abbrev pub boot_from : ℕ → List Function → Option ℕ
+boot_from n [] = None
+boot_from n (f ∷ all) = cond f.is_boot (Some n) (boot_from (suc n) all)
+
+abbrev pub boot_at : Code → Option ℕ
+boot_at code = boot_from 0 code.functions
+
+abbrev pub name_of : Option Function → List ℕ
+name_of None = []
+name_of (Some f) = f.name
+
+-- the entry of the boot function under its own name
+abbrev pub boot_begun : Code → ℕ → Mach World → Mach World
+boot_begun code turns m = begun_at (name_of (function_at code (boot_at code))) (boot_at code) [] turns m
+
+-- a call, and the boot, run to the end
+abbrev pub called : Code → List ℕ → List ℕ → ℕ → Mach World → Mach World
+called code sub args turns m = run code (begun sub args turns m)
+
+abbrev pub booted : Code → ℕ → Mach World → Mach World
+booted code turns m = run code (boot_begun code turns m)
+
+-- ---- the end of a call
+
+-- the runner's stacks, which are empty
+abbrev pub runner_depths : Depths
+runner_depths = record { args = 0; marks = 0; temps = 0; scopes = 0 }
+
+abbrev pub settled_to : Swept World → Mach World → Mach World
+settled_to (Clean w) m = record { pending = m.pending; operands = m.operands; state = with_store w m.state; stopped = m.stopped }
+settled_to (Dirty t w) m = record { pending = m.pending; operands = m.operands; state = with_store w m.state; stopped = outcome.Trapped t }
+
+-- Frees the temporaries of the last call and cuts all stacks to the runner's. Nothing is done where a run was over for good.
+abbrev pub settled : Mach World → Mach World
+settled m = cond (is_over m.stopped) m (settled_to (sweep runner_depths m.state.store) m)
+
+abbrev pub or_returned : Outcome → Outcome
+or_returned o = cond (is_over o) o (outcome.Returned [])
+
+-- what the settling answers: no items, or why a run was over for good
+abbrev pub settle_answer : Mach World → Outcome
+settle_answer m = or_returned (settled m).stopped

@@ -1,0 +1,111 @@
+-- The machine of the program, seen as the machine of the definitions.
+use Rattle.std.specs.Prelude.{◌≡◌, ℕ, List, [], map, reverse, Option, Some, None, Result, Ok, Err}
+use Rattle.xs_values.specs.declared.trap.Trap.{Trap}
+use Rattle.xs_machine.specs.declared.api.Halt.{Halt}
+use Rattle.xs_machine.specs.declared.api.Halt.TheVariants.{Way, Memory}
+use Rattle.xs_machine.specs.declared.api.Frame.{Frame}
+use Rattle.xs_machine.specs.declared.api.Operand.{Operand}
+use Rattle.xs_machine.specs.declared.api.Perl.{Perl}
+use Rattle.xs_machine.specs.declared.ccheck.Callable.{Callable}
+use Rattle.xs_machine.specs.declared.ccheck.Typed.{Typed}
+use Rattle.xs_machine.specs.declared.machine.Machine.{Machine}
+use Rattle.xs_machine.specs.declared.machine.Outcome.TheVariants as outcome
+use Rattle.xs_machine.specs.declared.machine.Task.{Task}
+use Rattle.xs_machine.specs.declared.machine.Task.TheVariants as task
+use Rattle.xs_machine.specs.Arena.{function_of, row_of, tree_at, trees_at}
+use Rattle.xs_machine.specs.Machine.{Mach, function_at, Work, DoTree, DoTrees, DoBlock, SetVar, Operate, ConvertTop, DoRow, Branch, ForgetTop, DropTop, Enter, Leave}
+use Rattle.xs_machine.specs.State.{Effect, Gives, Ends, Out, Done, State, operate, with_store}
+use Rattle.xs_machine.specs.State as state
+use Rattle.xs_machine.specs.Rows.{new_mortal}
+use Rattle.xs_machine.specs.declared.api.Operand.TheVariants.{Scalar}
+use Rattle.xs_machine.specs.declared.api.Stop.{Stop}
+use Rattle.xs_machine.specs.declared.api.Stop.TheVariants as stop
+use Rattle.xs_values.specs.declared.plain.Plain.{Plain}
+use Rattle.xs_machine.specs.declared.api.Abrupt.TheVariants.{Traps}
+use Rattle.xs_values.specs.declared.operator.Op.{Op}
+use Rattle.xs_machine.specs.Tree.{Code, Function}
+use Rattle.xs_machine.specs.World.{Swept, Clean, Dirty, World}
+
+abbrev pub world_of : Perl → World
+world_of p =
+    record {
+      cells = p.heap;
+      args = p.stacks.args.items;
+      top = p.stacks.top;
+      marks = reverse p.stacks.marks.items;
+      temps = reverse p.stacks.temps.items;
+      scopes = reverse p.stacks.scopes.items;
+      names = reverse p.names.items;
+    }
+
+abbrev pub code_of : Typed → Code
+code_of t = record { functions = map (function_of (t.texts.items) t.nodes.items) t.functions.items }
+
+abbrev pub task_of : Typed → Task → Work
+task_of t (task.DoTree i) = DoTree (tree_at t.texts.items t.nodes.items i)
+task_of t (task.DoTrees i) = DoTrees (trees_at t.texts.items t.nodes.items i)
+task_of t (task.DoBlock i) = DoBlock (trees_at t.texts.items t.nodes.items i)
+task_of t (task.SetVar x ty) = SetVar x ty
+task_of t (task.Operate op) = Operate op
+task_of t (task.ConvertTop k) = ConvertTop k
+task_of t (task.DoRow r n) = DoRow (row_of t.texts.items r) n
+task_of t (task.Branch a b) = Branch (tree_at t.texts.items t.nodes.items a) (tree_at t.texts.items t.nodes.items b)
+task_of t task.ForgetTop = ForgetTop
+task_of t task.DropTop = DropTop
+task_of t (task.Enter f) = Enter f
+task_of t (task.Leave d) = Leave d
+
+abbrev pub pending_of : Machine → List Work
+pending_of m = map (task_of m.typed) (reverse m.pending.items)
+
+abbrev pub operands_of : Machine → List Operand
+operands_of m = reverse m.operands.items
+
+abbrev pub state_of : Machine → State World
+state_of m = record { vars = m.vars.items; frame = m.frame; store = world_of m.perl; turns = m.turns }
+
+abbrev pub mach_of : Machine → Mach World
+mach_of m = record { pending = pending_of m; operands = operands_of m; state = state_of m; stopped = m.stopped }
+
+-- what a call of a row did is what the row does; want of memory says nothing
+abbrev pub Does : Effect World → Result Operand Halt → Frame → World → Type 0
+Does e (Ok v) f w = e ≡ Gives v f w
+Does e (Err (Way a)) f w = e ≡ Ends a f w
+Does e (Err Memory) f w = Unit {0}
+
+-- what a sweep did
+abbrev pub Sweeps : Swept World → Result (Unit {0}) Trap → World → Type 0
+Sweeps e (Ok u) w = e ≡ Clean w
+Sweeps e (Err t) w = e ≡ Dirty t w
+
+-- the file that a machine runs
+abbrev pub code_in : Machine → Code
+code_in m = code_of m.typed
+
+-- the function of a number, as the machine enters it: how many slots it has, and the place of its body
+abbrev pub Callee : Typed → Option ℕ → Option Callable → Type 0
+Callee t f None = function_at (code_of t) f ≡ None
+Callee t f (Some e) = (g : Function) × (function_at (code_of t) f ≡ Some g) × ((g.slots ≡ e.slots) × (g.body ≡ tree_at t.texts.items t.nodes.items e.body))
+
+-- a value or a trap
+abbrev pub given_or : Result Operand Trap → State World → Out World Operand
+given_or (Ok v) σ = Done v σ
+given_or (Err t) σ = state.Stop (Traps t) σ
+
+-- what an operator gave
+abbrev pub Operates : Op → Operand → Operand → Result Operand Trap → Type 0
+Operates op a b r = (σ : State World) → operate op a b σ ≡ given_or r σ
+
+-- the machine with another world
+abbrev pub with_world : World → Mach World → Mach World
+with_world w m = record { pending = m.pending; operands = m.operands; state = with_store w m.state; stopped = m.stopped }
+
+-- An argument is made as a temporary, the limit is reached, or memory is not found.
+abbrev pub MakesArgument : Plain → Mach World → Result ℕ Stop → Mach World → Type 0
+MakesArgument p old (Ok n) new = (new_mortal p old.state.frame old.state.store ≡ Gives (Scalar (Some n)) old.state.frame new.state.store) × (new ≡ with_world new.state.store old)
+MakesArgument p old (Err (stop.Trap t)) new = (new_mortal p old.state.frame old.state.store ≡ Ends (Traps t) old.state.frame old.state.store) × (new ≡ old)
+MakesArgument p old (Err stop.Memory) new = Unit {0}
+
+-- for want of memory nothing is run any more
+abbrev pub IsFailed : Mach World → Type 0
+IsFailed m = (m.stopped ≡ outcome.Memory) × (m.pending ≡ [])

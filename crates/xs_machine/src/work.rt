@@ -1,0 +1,409 @@
+//! One piece of pending work.
+ghost use Rattle.std.specs.Prelude.{◌≡◌, ◌∷◌, [], IfOk, OnOk, Some, replicate, reverse, slice_index_or, slice_set};
+ghost use Rattle.xs_machine.specs.Arena.{row_of, tree_at, tree_from, trees_at};
+ghost use Rattle.xs_machine.specs.Machine as machine;
+ghost use Rattle.xs_machine.specs.Rows.{counted_rows};
+ghost use Rattle.xs_machine.specs.State as state;
+ghost use Rattle.xs_machine.specs.Tree.{Function, tree_count};
+ghost use Rattle.xs_machine.specs.Views.{Operates, code_in, given_or, mach_of, operands_of, pending_of, state_of, task_of};
+
+use crate::api::{Abrupt, Halt, Operand};
+use crate::ccheck::{Callable, Node, RowNode, Typed, ValueType};
+use crate::machine::{Machine, Outcome, Task};
+use crate::stacks::{Depths, pop_top};
+use std::alloc::Global;
+use xs_base::{Bytes, Items, Memory};
+use xs_values::{Kind, Op, Trap, arith, wrap};
+
+// One tree, by its node.
+fn act_on_tree(m: &mut Machine, i: u32) -> Result<(), Memory>
+    requires { m.old.stopped ≡ Outcome.Returned [] }
+    ensures acts { OnOk result (mach_of m.new ≡ machine.act_tree counted_rows (tree_at m.old.typed.texts.items m.old.typed.nodes.items i) (pending_of m.old) (operands_of m.old) (state_of m.old)) }
+    ensures typed { m.new.typed ≡ m.old.typed }
+{
+    match m.typed.node(i) {
+        None => push_items(m),
+        Some(node) => act_on_node(m, node),
+    }
+}
+
+fn act_on_node(m: &mut Machine, node: Node) -> Result<(), Memory>
+    requires { m.old.stopped ≡ Outcome.Returned [] }
+    ensures acts { OnOk result (mach_of m.new ≡ machine.act_tree counted_rows (tree_from m.old.typed.texts.items (Some node) (tree_at m.old.typed.texts.items m.old.typed.nodes.items) (trees_at m.old.typed.texts.items m.old.typed.nodes.items)) (pending_of m.old) (operands_of m.old) (state_of m.old)) }
+    ensures typed { m.new.typed ≡ m.old.typed }
+{
+    match node {
+        Node::Literal(n) => m.push(Operand::Num(n)),
+        Node::Variable(x) => read_variable(m, x),
+        Node::Assign(x, t, e) => m.then_two(Task::DoTree(e), Task::SetVar(x, t)),
+        Node::Binary(op, a, b) => {
+            m.then(Task::Operate(op))?;
+            m.then_two(Task::DoTree(a), Task::DoTree(b))
+        }
+        Node::Convert(kind, e) => m.then_two(Task::DoTree(e), Task::ConvertTop(kind)),
+        Node::ApiRow(row, xs) => {
+            let count = count_trees(&m.typed, xs);
+            m.then_two(Task::DoTrees(xs), Task::DoRow(row, count))
+        }
+        Node::Block(ts) => m.then(Task::DoBlock(ts)),
+        Node::If(e, a, b) => m.then_two(Task::DoTree(e), Task::Branch(a, b)),
+        Node::Forget(e) => m.then_two(Task::DoTree(e), Task::ForgetTop),
+        Node::Declare(x) => {
+            write_variable(&mut m.vars, x, &Operand::Unset);
+            m.push(Operand::Void)
+        }
+        Node::ItemCount | Node::NoTrees | Node::MoreTrees(_, _) => push_items(m),
+    }
+}
+
+// The number of arguments.
+fn push_items(m: &mut Machine) -> Result<(), Memory>
+    requires { m.old.stopped ≡ Outcome.Returned [] }
+    ensures acts { OnOk result (mach_of m.new ≡ machine.run_on (pending_of m.old) (state.item_count (state_of m.old) ∷ operands_of m.old) (state_of m.old)) }
+    ensures typed { m.new.typed ≡ m.old.typed }
+{
+    let items = wrap(Kind::I32, i128::from(m.frame.items));
+    m.push(Operand::Num(items))
+}
+
+// A variable's value.
+fn read_variable(m: &mut Machine, x: u32) -> Result<(), Memory>
+    requires { m.old.stopped ≡ Outcome.Returned [] }
+    ensures acts { OnOk result (mach_of m.new ≡ machine.land counted_rows ◌∷◌ (pending_of m.old) (operands_of m.old) (state.read_var x (state_of m.old))) }
+    ensures typed { m.new.typed ≡ m.old.typed }
+{
+    match variable(&m.vars, x) {
+        Operand::Unset => {
+            m.unwind(Abrupt::Traps(Trap::Unset));
+            Ok(())
+        }
+        Operand::Num(n) => m.push(Operand::Num(n)),
+        Operand::Scalar(s) => m.push(Operand::Scalar(s)),
+        Operand::Void => m.push(Operand::Void),
+    }
+}
+
+fn variable(vars: &Vec<Operand>, x: u32) -> Operand
+    ensures { result ≡ slice_index_or vars.now.items x Operand.Unset }
+{
+    vars.get(x as usize).copied().unwrap_or(Operand::Unset)
+}
+
+fn write_variable(vars: &mut Vec<Operand>, x: u32, v: &Operand)
+    ensures { vars.new.items ≡ slice_set vars.old.items x v.now }
+{
+    let at = x as usize;
+    if at < vars.len() {
+        vars[at] = *v;
+    }
+}
+
+// How many trees a list has.
+fn count_trees(typed: &Typed, xs: u32) -> u32
+    ensures { result ≡ tree_count (trees_at typed.now.texts.items typed.now.nodes.items xs) }
+{
+    let mut count: u32 = 0;
+    let mut at = xs;
+    while let Some(Node::MoreTrees(_, rest)) = typed.node(at) {
+        count += 1;
+        at = rest;
+    }
+    count
+}
+
+// Operands, or statements, that are still to be done.
+fn act_on_trees(m: &mut Machine, i: u32) -> Result<(), Memory>
+    requires { m.old.stopped ≡ Outcome.Returned [] }
+    ensures acts { OnOk result (mach_of m.new ≡ machine.act counted_rows (code_in m.old) (machine.DoTrees (trees_at m.old.typed.texts.items m.old.typed.nodes.items i)) (pending_of m.old) (operands_of m.old) (state_of m.old)) }
+    ensures typed { m.new.typed ≡ m.old.typed }
+{
+    match m.typed.node(i) {
+        Some(Node::MoreTrees(t, ts)) => m.then_two(Task::DoTree(t), Task::DoTrees(ts)),
+        _ => Ok(()),
+    }
+}
+
+fn act_on_block(m: &mut Machine, i: u32) -> Result<(), Memory>
+    requires { m.old.stopped ≡ Outcome.Returned [] }
+    ensures acts { OnOk result (mach_of m.new ≡ machine.act counted_rows (code_in m.old) (machine.DoBlock (trees_at m.old.typed.texts.items m.old.typed.nodes.items i)) (pending_of m.old) (operands_of m.old) (state_of m.old)) }
+    ensures typed { m.new.typed ≡ m.old.typed }
+{
+    match m.typed.node(i) {
+        Some(Node::MoreTrees(t, ts)) => {
+            m.then(Task::DoBlock(ts))?;
+            m.then_two(Task::DoTree(t), Task::DropTop)
+        }
+        _ => m.push(Operand::Void),
+    }
+}
+
+// Where an operand is missing, which no tree of the types stage comes to.
+fn short_of(m: &mut Machine)
+    ensures halts { mach_of m.new ≡ machine.short_of (state_of m.old) }
+    ensures typed { m.new.typed ≡ m.old.typed }
+{
+    m.halt(Outcome::Trapped(Trap::Kind));
+}
+
+// Goes on with a value, or unwinds.
+fn land(m: &mut Machine, value: Result<Operand, Trap>) -> Result<(), Memory>
+    requires { m.old.stopped ≡ Outcome.Returned [] }
+    ensures lands { OnOk result (mach_of m.new ≡ machine.land counted_rows ◌∷◌ (pending_of m.old) (operands_of m.old) (given_or value (state_of m.old))) }
+    ensures typed { m.new.typed ≡ m.old.typed }
+{
+    match value {
+        Ok(v) => m.push(v),
+        Err(trap) => {
+            m.unwind(Abrupt::Traps(trap));
+            Ok(())
+        }
+    }
+}
+
+// An assignment of the topmost operand.
+fn act_on_assign(m: &mut Machine, x: u32, t: ValueType) -> Result<(), Memory>
+    requires { m.old.stopped ≡ Outcome.Returned [] }
+    ensures acts { OnOk result (mach_of m.new ≡ machine.act counted_rows (code_in m.old) (machine.SetVar x t) (pending_of m.old) (operands_of m.old) (state_of m.old)) }
+    ensures typed { m.new.typed ≡ m.old.typed }
+{
+    let Some(v) = pop_top(&mut m.operands) else {
+        short_of(m);
+        return Ok(());
+    };
+    match assigned(t, v) {
+        None => land(m, Err(Trap::Kind)),
+        Some(v) => assign(m, x, v),
+    }
+}
+
+fn assign(m: &mut Machine, x: u32, v: Operand) -> Result<(), Memory>
+    requires { m.old.stopped ≡ Outcome.Returned [] }
+    ensures acts { OnOk result (mach_of m.new ≡ machine.land counted_rows ◌∷◌ (pending_of m.old) (operands_of m.old) (state.assign_as (Some v) x (state_of m.old))) }
+    ensures typed { m.new.typed ≡ m.old.typed }
+{
+    write_variable(&mut m.vars, x, &v);
+    m.push(v)
+}
+
+// What is assigned to a variable of a type.
+fn assigned(t: ValueType, v: Operand) -> Option<Operand>
+    ensures { result ≡ state.assigned t v }
+{
+    match t {
+        ValueType::Number(kind) => match v {
+            Operand::Num(n) => Some(Operand::Num(wrap(kind, n.value()))),
+            Operand::Unset | Operand::Scalar(_) | Operand::Void => None,
+        },
+        ValueType::Scalar => match v {
+            Operand::Scalar(s) => Some(Operand::Scalar(s)),
+            Operand::Unset | Operand::Num(_) | Operand::Void => None,
+        },
+        ValueType::Void => None,
+    }
+}
+
+// An operator on the two topmost operands.
+fn act_on_operator(m: &mut Machine, op: Op) -> Result<(), Memory>
+    requires { m.old.stopped ≡ Outcome.Returned [] }
+    ensures acts { OnOk result (mach_of m.new ≡ machine.act counted_rows (code_in m.old) (machine.Operate op) (pending_of m.old) (operands_of m.old) (state_of m.old)) }
+    ensures typed { m.new.typed ≡ m.old.typed }
+{
+    let Some(b) = pop_top(&mut m.operands) else {
+        short_of(m);
+        return Ok(());
+    };
+    let Some(a) = pop_top(&mut m.operands) else {
+        short_of(m);
+        return Ok(());
+    };
+    land(m, operate(op, a, b))
+}
+
+fn operate(op: Op, a: Operand, b: Operand) -> Result<Operand, Trap>
+    ensures { Operates op a b result }
+{
+    match a {
+        Operand::Num(a) => match b {
+            Operand::Num(b) => match arith(op, a, b) {
+                Ok(n) => Ok(Operand::Num(n)),
+                Err(trap) => Err(trap),
+            },
+            Operand::Unset | Operand::Scalar(_) | Operand::Void => Err(Trap::Kind),
+        },
+        Operand::Unset | Operand::Scalar(_) | Operand::Void => Err(Trap::Kind),
+    }
+}
+
+// A conversion of the topmost operand.
+fn act_on_convert(m: &mut Machine, kind: Kind) -> Result<(), Memory>
+    requires { m.old.stopped ≡ Outcome.Returned [] }
+    ensures acts { OnOk result (mach_of m.new ≡ machine.act counted_rows (code_in m.old) (machine.ConvertTop kind) (pending_of m.old) (operands_of m.old) (state_of m.old)) }
+    ensures typed { m.new.typed ≡ m.old.typed }
+{
+    let Some(v) = pop_top(&mut m.operands) else {
+        short_of(m);
+        return Ok(());
+    };
+    match assigned(ValueType::Number(kind), v) {
+        None => land(m, Err(Trap::Kind)),
+        Some(v) => m.push(v),
+    }
+}
+
+// A condition on the topmost operand.
+fn act_on_branch(m: &mut Machine, a: u32, b: u32) -> Result<(), Memory>
+    requires { m.old.stopped ≡ Outcome.Returned [] }
+    ensures acts { OnOk result (mach_of m.new ≡ machine.act counted_rows (code_in m.old) (task_of m.old.typed (Task.Branch a b)) (pending_of m.old) (operands_of m.old) (state_of m.old)) }
+    ensures typed { m.new.typed ≡ m.old.typed }
+{
+    let Some(v) = pop_top(&mut m.operands) else {
+        short_of(m);
+        return Ok(());
+    };
+    match truth_of(v) {
+        None => land(m, Err(Trap::Kind)),
+        Some(true) => m.then(Task::DoTree(a)),
+        Some(false) => m.then(Task::DoTree(b)),
+    }
+}
+
+// Whether a condition holds.
+fn truth_of(v: Operand) -> Option<bool>
+    ensures { result ≡ state.truth_of v }
+{
+    match v {
+        Operand::Num(n) => Some(n.value() != 0),
+        Operand::Scalar(s) => Some(s.is_some()),
+        Operand::Unset | Operand::Void => None,
+    }
+}
+
+// A row on the topmost operands.
+fn act_on_row(m: &mut Machine, row: RowNode, n: u32) -> Result<(), Memory>
+    requires { m.old.stopped ≡ Outcome.Returned [] }
+    ensures acts { OnOk result (mach_of m.new ≡ machine.act counted_rows (code_in m.old) (machine.DoRow (row_of m.old.typed.texts.items row) n) (pending_of m.old) (operands_of m.old) (state_of m.old)) }
+    ensures typed { m.new.typed ≡ m.old.typed }
+{
+    let operands = take_operands(&mut m.operands, n)?;
+    match m.perl.row(row, &m.typed, &operands, &mut m.frame) {
+        Ok(v) => m.push(v),
+        Err(Halt::Way(abrupt)) => {
+            m.unwind(abrupt);
+            Ok(())
+        }
+        Err(Halt::Memory) => Err(Memory),
+    }
+}
+
+// The topmost operands, in the order in which they came.
+fn take_operands(stack: &mut Vec<Operand>, n: u32) -> Result<Vec<Operand>, Memory>
+    ensures { IfOk result (λ taken. machine.taken n [] (reverse stack.old.items) ≡ (taken.items, reverse stack.new.items)) }
+{
+    let at = stack.len().saturating_sub(n as usize);
+    let operands = stack.split_off(at)?;
+    Ok(operands)
+}
+
+// The entry of a function.
+fn enter(m: &mut Machine, f: Option<u32>) -> Result<(), Memory>
+    requires { m.old.stopped ≡ Outcome.Returned [] }
+    ensures acts { OnOk result (mach_of m.new ≡ machine.act counted_rows (code_in m.old) (machine.Enter f) (pending_of m.old) (operands_of m.old) (state_of m.old)) }
+    ensures typed { m.new.typed ≡ m.old.typed }
+{
+    match m.typed.callee(f) {
+        None => {
+            let text = undefined_text(m.alloc, &m.frame.called)?;
+            m.unwind(Abrupt::Croaks(text));
+            Ok(())
+        }
+        Some(callee) => enter_body(m, callee),
+    }
+}
+
+fn enter_body(m: &mut Machine, callee: Callable) -> Result<(), Memory>
+    requires { m.old.stopped ≡ Outcome.Returned [] }
+    ensures acts { (g : Function) → g.slots ≡ callee.slots → g.body ≡ tree_at m.old.typed.texts.items m.old.typed.nodes.items callee.body → OnOk result (mach_of m.new ≡ machine.enter counted_rows (Some g) (pending_of m.old) (state_of m.old)) }
+    ensures typed { m.new.typed ≡ m.old.typed }
+{
+    if m.turns == 0 {
+        m.unwind(Abrupt::Spent);
+        return Ok(());
+    }
+    let vars = unset_vars(m.alloc, callee.slots)?;
+    m.turns -= 1;
+    m.vars = vars;
+    m.operands.clear();
+    m.then_two(Task::DoTree(callee.body), Task::DropTop)
+}
+
+// The variables at the entry of a function.
+fn unset_vars(alloc: Global, slots: u32) -> Result<Vec<Operand>, Memory>
+    ensures { IfOk result (λ vars. vars.items ≡ replicate slots Operand.Unset) }
+{
+    let mut vars = Vec::new(alloc);
+    for _ in 0..slots {
+        vars.push(Operand::Unset)?;
+    }
+    Ok(vars)
+}
+
+fn undefined_text(alloc: Global, name: &Bytes) -> Result<Bytes, Memory>
+    ensures { IfOk result (λ text. text ≡ machine.undefined_text name.now) }
+{
+    let mut text = Bytes::from_slice(alloc, b"Undefined subroutine &")?;
+    text.append(name.as_slice())?;
+    text.append(b" called")?;
+    Ok(text)
+}
+
+// The end of a function's body.
+fn fall_off(m: &mut Machine, d: Depths) -> Result<(), Memory>
+    requires { m.old.stopped ≡ Outcome.Returned [] }
+    ensures acts { OnOk result (mach_of m.new ≡ machine.act counted_rows (code_in m.old) (machine.Leave d) (pending_of m.old) (operands_of m.old) (state_of m.old)) }
+    ensures typed { m.new.typed ≡ m.old.typed }
+{
+    match m.perl.xs_end(&m.frame) {
+        Ok(_) => {
+            m.halt(Outcome::Returned(Items::new(m.alloc)));
+            Ok(())
+        }
+        Err(Halt::Way(abrupt)) => {
+            m.leave(abrupt, d);
+            Ok(())
+        }
+        Err(Halt::Memory) => Err(Memory),
+    }
+}
+
+/// Does one piece of pending work.
+pub(crate) fn act_on(m: &mut Machine, task: Task) -> Result<(), Memory>
+    requires { m.old.stopped ≡ Outcome.Returned [] }
+    ensures acts { OnOk result (mach_of m.new ≡ machine.act counted_rows (code_in m.old) (task_of m.old.typed task) (pending_of m.old) (operands_of m.old) (state_of m.old)) }
+    ensures typed { m.new.typed ≡ m.old.typed }
+{
+    match task {
+        Task::DoTree(i) => act_on_tree(m, i),
+        Task::DoTrees(i) => act_on_trees(m, i),
+        Task::DoBlock(i) => act_on_block(m, i),
+        Task::SetVar(x, t) => act_on_assign(m, x, t),
+        Task::Operate(op) => act_on_operator(m, op),
+        Task::ConvertTop(kind) => act_on_convert(m, kind),
+        Task::DoRow(row, n) => act_on_row(m, row, n),
+        Task::Branch(a, b) => act_on_branch(m, a, b),
+        Task::ForgetTop => match pop_top(&mut m.operands) {
+            None => {
+                short_of(m);
+                Ok(())
+            }
+            Some(_) => m.push(Operand::Void),
+        },
+        Task::DropTop => {
+            if pop_top(&mut m.operands).is_none() {
+                short_of(m);
+            }
+            Ok(())
+        }
+        Task::Enter(f) => enter(m, f),
+        Task::Leave(d) => fall_off(m, d),
+    }
+}

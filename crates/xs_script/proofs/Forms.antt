@@ -1,0 +1,75 @@
+-- What reading an expression meets and how many turns it takes, form by form.
+use Rattle.std.proofs.Common.{◌≡◌, ℕ, suc, ◌+◌, List, [], ◌∷◌, Option, Some, None, refl}
+use Rattle.std.specs.Prelude.{unwrap_or}
+use Rattle.xs_script.specs.declared.token.Token.{Token}
+use Rattle.xs_script.specs.Form as f
+use Rattle.xs_script.specs.Form.{Form, Forms, Pairs, Deed}
+use Rattle.xs_script.specs.Input.{Input, named, exceeded, opened}
+use Rattle.xs_script.specs.Numbers.{number_of, argument_of}
+use Rattle.xs_script.specs.Value.{ranged}
+
+-- an input with these parts left
+abbrev pub at : List Token → Input → Input
+at ts i = record i { rest = ts }
+
+abbrev pub out_of_range : {A : Type 0} → Option A → List ℕ → Input → Input
+out_of_range (Some a) text i = i
+out_of_range None text i = exceeded text i
+
+abbrev mutual
+  pub met_form : ℕ → Form → Input → Input
+  met_form d f.Undef i = i
+  met_form d (f.Number n) i = out_of_range (number_of n) n i
+  met_form d (f.Text content) i = i
+  met_form d (f.Variable n) i = named n i
+  met_form d (f.Reference n) i = named n i
+  met_form d (f.ListOf fs) i = met_list (suc d) fs (opened (d + 1) i)
+  met_form d (f.HashOf ps) i = met_pairs (suc d) ps (opened (d + 1) i)
+  met_form d (f.Argument k) i = out_of_range (argument_of k) k i
+
+  pub met_list : ℕ → Forms → Input → Input
+  met_list d f.NoForm i = i
+  met_list d (f.MoreForms e fs) i = met_list d fs (met_form d e i)
+
+  pub met_pairs : ℕ → Pairs → Input → Input
+  met_pairs d f.NoPair i = i
+  met_pairs d (f.MorePairs k e ps) i = met_pairs d ps (met_form d e i)
+
+abbrev pub met_args : List Form → Input → Input
+met_args [] i = i
+met_args (e ∷ es) i = met_args es (met_form 0 e i)
+
+abbrev pub met_deed : Deed → Input → Input
+met_deed (f.Push e) i = met_form 0 e i
+met_deed (f.Set k e) i = met_form 0 e (out_of_range (argument_of k) k i)
+met_deed (f.Call n es) i = met_args es i
+met_deed (f.Die content) i = i
+
+abbrev pub met_deeds : List Deed → Input → Input
+met_deeds [] i = i
+met_deeds (d ∷ ds) i = met_deeds ds (met_deed d i)
+
+-- the turns that an expression takes
+abbrev mutual
+  pub steps : Form → ℕ
+  steps f.Undef = 1
+  steps (f.Number n) = 1
+  steps (f.Text content) = 1
+  steps (f.Variable n) = 1
+  steps (f.Reference n) = 1
+  steps (f.ListOf fs) = steps_list fs + 1
+  steps (f.HashOf ps) = steps_pairs ps + 1
+  steps (f.Argument k) = 1
+
+  pub steps_list : Forms → ℕ
+  steps_list f.NoForm = 0
+  steps_list (f.MoreForms e fs) = steps e + 1 + steps_list fs
+
+  pub steps_pairs : Pairs → ℕ
+  steps_pairs f.NoPair = 0
+  steps_pairs (f.MorePairs k e ps) = steps e + 1 + steps_pairs ps
+
+pub ranged_done : {A : Type 0} (o : Option A) (stand_in : A) (text : List ℕ) (ts : List Token) (i : Input) → ranged o stand_in text (at ts i) ≡ Some (unwrap_or o stand_in, at ts (out_of_range o text i))
+unfolding exceeded
+ranged_done (Some a) stand_in text ts i = refl
+ranged_done None stand_in text ts i = refl

@@ -1,0 +1,87 @@
+-- What is read is what the lines mean, and they mean nothing else.
+use Rattle.std.proofs.Common.{◌≡◌, ℕ, Bool, true, false, List, [], ◌∷◌, Option, Some, None, Result, Ok, Err, refl, ap, sym, ◌∙◌, subst, if◌then◌else◌}
+use Rattle.std.specs.declared.alloc.Global.{Global}
+use Rattle.std.specs.declared.vec.Vec.{Vec}
+use Rattle.xs_base.specs.declared.fault.Fault.{Fault}
+use Rattle.xs_base.specs.declared.fault.Refuse.{Refuse}
+use Rattle.xs_base.specs.declared.fault.Refuse.TheVariants as refuse
+use Rattle.xs_base.specs.declared.place.Line.{Line}
+use Rattle.xs_base.specs.Lines.{lines_of}
+use Rattle.xs_base.specs.Reading.{GivesBy, ◌>>=◌}
+use Rattle.xs_script.specs.declared.command.Command.{Command}
+use Rattle.xs_script.specs.declared.scope.Scope.{Scope}
+use Rattle.xs_script.specs.declared.token.Token.{Token}
+use Rattle.xs_script.specs.Expr.{Said}
+use Rattle.xs_script.specs.Form.{Written}
+use Rattle.xs_script.specs.Input.{Input, Outcome, start_of}
+use Rattle.xs_script.specs.Lex.{tokens_of}
+use Rattle.xs_script.specs.Meaning as m
+use Rattle.xs_script.specs.Meaning.{IsWritten, LineMeans, LinesMean, Means, judge}
+use Rattle.xs_script.specs.Script.{line_of, reading_of, read_parts, judged, fault, is_skipped, commands_from, script_of, go_on, with_front, behind, empty_scope}
+use Rattle.xs_script.specs.View.{said_all}
+use Rattle.xs_script.proofs.CompleteLines.{reading_done, line_done}
+use Rattle.xs_script.proofs.SoundLines.{command_sound}
+use Rattle.xs_script.proofs.SpelledSound.{spelled_sound}
+
+reading_written : (scope : Scope) (line : Line) (c : Said) (i : Input) → reading_of scope line ≡ Some (c, i) → (w : Written) × IsWritten w line.text
+unfolding reading_of
+reading_written scope line c i h = by_parts (tokens_of line.text) refl h
+  where
+    by_parts : (parts : Option (List Token)) → tokens_of line.text ≡ parts → read_parts scope line.number parts ≡ Some (c, i) → (w : Written) × IsWritten w line.text
+    by_parts None e h = absurd cc
+    by_parts (Some ts) e h = let x = command_sound line.number (start_of scope ts) i c h in (x.0, (ts, spelled_sound line.text ts e, x.1))
+
+none_some : {A : Type 0} (a : A) → ◌≡◌ {A = Option A} None (Some a) → ⊥
+none_some a h = cc
+
+-- each line means what is read in it
+line_means : (scope : Scope) (line : Line) → LineMeans scope line (line_of scope line)
+unfolding line_of
+line_means scope line = by_skipped (is_skipped line.text) refl
+  where
+    by_reading : is_skipped line.text ≡ false → (o : Outcome Said) → reading_of scope line ≡ o → LineMeans scope line (judged scope line.number o)
+    by_reading s None e = m.unread s (λ c w. none_some _ (sym e ∙ reading_done scope line c w))
+    by_reading s (Some q) e =
+        let w = reading_written scope line q.0 q.1 e in
+        let same : judge scope line.number w.0 ≡ judged scope line.number (Some q) = sym (line_done scope line w.0 s w.1) ∙ rw (s, e) refl in
+        subst (λ r. LineMeans scope line r) same (m.written s w.1)
+
+    by_skipped : (b : Bool) → is_skipped line.text ≡ b → LineMeans scope line (if b then Ok None else judged scope line.number (reading_of scope line))
+    by_skipped true s = m.skipped s
+    by_skipped false s = by_reading s (reading_of scope line) refl
+
+-- a line means one thing
+line_is : {scope : Scope} {line : Line} {r : Result (Option Said) Fault} → LineMeans scope line r → r ≡ line_of scope line
+unfolding line_of
+line_is (m.skipped s) = rw s refl
+line_is (m.unread {scope = scope} {line = line} s none) = rw s (by_reading (reading_of scope line) refl)
+  where
+    by_reading : (o : Outcome Said) → reading_of scope line ≡ o → Err (fault line.number 951 []) ≡ judged scope line.number o
+    by_reading None e = refl
+    by_reading (Some q) e = let w = reading_written scope line q.0 q.1 e in absurd (none w.0 w.1)
+line_is (m.written {scope = scope} {line = line} {c = c} s w) = sym (line_done scope line c s w)
+
+lines_mean : (lines : List Line) (scope : Scope) → LinesMean scope lines (commands_from lines scope)
+unfolding commands_from
+lines_mean [] scope = m.no_line
+lines_mean (line ∷ lines) scope = by_line (line_of scope line) (line_means scope line) (lines_mean lines)
+  where
+    by_line : (r : Result (Option Said) Fault) → LineMeans scope line r → ((scope' : Scope) → LinesMean scope' lines (commands_from lines scope')) → LinesMean scope (line ∷ lines) (r >>= λ said. go_on said scope (commands_from lines))
+    by_line (Err why) x rest = m.faulty_line x
+    by_line (Ok None) x rest = m.silent_line x (rest scope)
+    by_line (Ok (Some said)) x rest = m.command_line x (rest (behind said scope))
+
+lines_are : {scope : Scope} {lines : List Line} {r : Result (List Said) Fault} → LinesMean scope lines r → r ≡ commands_from lines scope
+unfolding commands_from
+lines_are m.no_line = refl
+lines_are (m.faulty_line x) = rw (← line_is x) refl
+lines_are (m.silent_line x y) = rw (← line_is x) (lines_are y)
+lines_are (m.command_line {said = said} x y) = rw (← line_is x) (ap (with_front (said ∷ [])) (lines_are y))
+
+pub script_means : (result : Result (Vec Command Global) Refuse) (src : List ℕ) → GivesBy said_all result (script_of src) → Means result src
+script_means (Ok commands) src e = subst (λ r. LinesMean empty_scope (lines_of src) r) e (lines_mean (lines_of src) empty_scope)
+script_means (Err (refuse.Fault why)) src e = subst (λ r. LinesMean empty_scope (lines_of src) r) e (lines_mean (lines_of src) empty_scope)
+script_means (Err refuse.Memory) src e = tt
+
+pub script_is : (result : Result (Vec Command Global) Refuse) (src : List ℕ) → GivesBy said_all result (script_of src) → (r : Result (List Said) Fault) → LinesMean empty_scope (lines_of src) r → GivesBy said_all result r
+script_is result src e r x = rw (lines_are x) e

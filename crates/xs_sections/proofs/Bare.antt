@@ -1,0 +1,180 @@
+-- The lines of the XS part that are no comments, from the first MODULE line on.
+use Rattle.std.proofs.Common.{◌≡◌, ℕ, Bool, true, false, ◌&&◌, ◌==◌, List, [], ◌∷◌, refl, ap, sym, subst, ◌∙◌, arith}
+use Rattle.std.specs.Prelude.{codes}
+use Rattle.std.specs.Str.{bytes_eq}
+use Rattle.std.proofs.lemmas.Bool.{false≢true}
+use Rattle.std.proofs.lemmas.Bool.Decides.{nat_tests}
+use Rattle.std.proofs.lemmas.Slice.Eq.{bytes_eq-Decides}
+use Rattle.xs_base.specs.declared.place.Line.{Line}
+use Rattle.xs_sections.specs.Text.{is_blank, begins_word, is_in_word, is_identifier, is_rest_of_word, trimmed, front, begins_with_byte}
+use Rattle.xs_sections.specs.Marks.{is_comment, is_module_line}
+use Rattle.xs_sections.specs.Classes.{Tag, class_of, place_behind, pod_behind, gap_behind, further_behind, blank_behind, tag_of, tags_from, tags_of}
+use Rattle.xs_sections.specs.Laws.{IsOf, from_module, without_comments}
+use Rattle.xs_sections.specs.Steps.{is_c_part}
+use Rattle.xs_sections.specs.declared.class.Class.{Class}
+use Rattle.xs_sections.specs.declared.class.Class.TheVariants as class
+use Rattle.xs_sections.specs.declared.class.Place.{Place}
+use Rattle.xs_sections.specs.declared.class.Place.TheVariants as place
+use Rattle.xs_sections.proofs.CPart.{kept}
+use Rattle.xs_sections.proofs.Fits.{Fits, Can, class_of_fits}
+use Rattle.xs_sections.proofs.Meanings.{Means, StandsAt, IsEnd, class_of_means, end_identifier}
+use Rattle.xs_sections.proofs.XsParts.{bare}
+
+abbrev tag : Class → Line → Bool → Tag
+tag class line starts = record { line = line; class = class; starts = starts }
+
+-- ---- what is no comment
+
+-- a line whose first word is MODULE
+module_no_comment : (text : List ℕ) → is_module_line text ≡ true → is_comment text ≡ false
+module_no_comment text h = by_text (trimmed text) h
+  where
+    by_byte : (c : Bool) (b : ℕ) (bs : List ℕ) → (b == 35) ≡ c → bytes_eq (front is_in_word (b ∷ bs)) (codes "MODULE") ≡ true → c ≡ false
+    by_byte true b bs e m =
+        let at : is_in_word b ≡ false = grind (arith, nat_tests) in
+        let none : bytes_eq (front is_in_word (b ∷ bs)) (codes "MODULE") ≡ false = rw at refl in absurd (false≢true (sym none ∙ m))
+    by_byte false b bs e m = refl
+
+    by_text : (rest : List ℕ) → bytes_eq (front is_in_word rest) (codes "MODULE") ≡ true → begins_with_byte (λ b. b == 35) rest ≡ false
+    by_text [] m = refl
+    by_text (b ∷ bs) m = by_byte (b == 35) b bs refl m
+
+-- an identifier
+word_no_comment : (b : ℕ) (bs : List ℕ) → begins_word b ≡ true → is_comment (b ∷ bs) ≡ false
+word_no_comment b bs h =
+    let a : is_blank b ≡ false = grind (arith, nat_tests) in
+    let c : (b == 35) ≡ false = grind (arith, nat_tests) in
+    rw a c
+
+and_left : (a b : Bool) → (a && b) ≡ true → a ≡ true
+and_left true b e = refl
+and_left false b e = e
+
+identifier_no_comment : (text : List ℕ) → is_identifier text ≡ true → is_comment text ≡ false
+identifier_no_comment [] h = refl
+identifier_no_comment (b ∷ bs) h = word_no_comment b bs (and_left (begins_word b) (is_rest_of_word bs) h)
+
+-- the end word of the block that stands open is an identifier
+abbrev HasWord : Place → Type 0
+HasWord (place.Map end) = is_identifier end ≡ true
+HasWord _ = Unit {0}
+
+end_no_comment : (at : Place) (text : List ℕ) → HasWord at → IsEnd at text true → is_comment text ≡ false
+end_no_comment (place.Map end) text w e =
+    let same : text ≡ end = (bytes_eq-Decides text end).0 e in rw same (identifier_no_comment end w)
+end_no_comment place.CPart text w e = absurd e
+end_no_comment place.Between text w e = absurd e
+end_no_comment place.Head text w e = absurd e
+end_no_comment place.HeadGap text w e = absurd e
+end_no_comment place.Body text w e = absurd e
+end_no_comment place.BodyGap text w e = absurd e
+end_no_comment place.Boot text w e = absurd e
+
+-- a place of the XS part
+record InXs (at : Place) : Type 0 where
+  no_c : is_c_part at ≡ false
+  word : HasWord at
+
+gap_xs : (at : Place) → InXs at → InXs (gap_behind at)
+gap_xs place.Head x = record { no_c = refl; word = tt }
+gap_xs place.CPart x = x
+gap_xs place.Between x = x
+gap_xs place.HeadGap x = x
+gap_xs place.Body x = x
+gap_xs place.BodyGap x = x
+gap_xs place.Boot x = x
+gap_xs (place.Map end) x = x
+
+further_xs : (at : Place) → InXs (further_behind at)
+further_xs place.Boot = record { no_c = refl; word = tt }
+further_xs _ = record { no_c = refl; word = tt }
+
+blank_xs : (at : Place) → InXs (blank_behind at)
+blank_xs place.Boot = record { no_c = refl; word = tt }
+blank_xs _ = record { no_c = refl; word = tt }
+
+-- ---- the lines of the XS part
+
+abbrev Same : List Tag → Type 0
+Same ts = bare ts ≡ without_comments (kept ts)
+
+takes : (l : Line) (ts : List Tag) → is_comment l.text ≡ false → Same ts → l ∷ bare ts ≡ without_comments (l ∷ kept ts)
+takes l ts e ih = rw e (ap (λ (ls : List Line). l ∷ ls) ih)
+
+bare_step : (c : Class) (l : Line) (starts : Bool) (at : Place) (ts : List Tag) → IsOf l.text c → StandsAt at l.text c → InXs at
+    → (InXs (place_behind at c) → Same ts) → Same (tag c l starts ∷ ts)
+bare_step class.PodBegin l starts at ts is s x ih = ih x
+bare_step class.PodLine l starts at ts is s x ih = ih x
+bare_step class.PodEnd l starts at ts is s x ih = ih x
+bare_step class.C l starts at ts is s x ih = absurd (false≢true (sym x.no_c ∙ s))
+bare_step class.Comment l starts at ts is s x ih = rw is.comment (ih x)
+bare_step class.Directive l starts at ts is s x ih = rw is.comment (ih x)
+bare_step (class.Module new) l starts at ts is s x ih = takes l ts (module_no_comment l.text is.first_word) (ih (record { no_c = refl; word = tt }))
+bare_step class.BadModule l starts at ts is s x ih = takes l ts (module_no_comment l.text is.first_word) (ih (record { no_c = refl; word = tt }))
+bare_step class.Outside l starts at ts is s x ih = takes l ts is.plain.no_comment (ih (gap_xs at x))
+bare_step class.Keyword l starts at ts is s x ih = takes l ts is.line.plain.no_comment (ih (record { no_c = refl; word = tt }))
+bare_step class.BadValue l starts at ts is s x ih = takes l ts is.line.plain.no_comment (ih (record { no_c = refl; word = tt }))
+bare_step (class.LeftOut word) l starts at ts is s x ih = takes l ts is.line.plain.no_comment (ih (record { no_c = refl; word = tt }))
+bare_step (class.MapBegin end) l starts at ts is s x ih =
+    takes l ts is.line.plain.no_comment (ih (record { no_c = refl; word = end_identifier l.text end is.reads }))
+bare_step class.MapLine l starts at ts is s x ih = takes l ts is.1 (ih x)
+bare_step class.MapEnd l starts at ts is s x ih = takes l ts (end_no_comment at l.text x.word s) (ih (record { no_c = refl; word = tt }))
+bare_step class.First l starts at ts is s x ih = takes l ts is.line.plain.no_comment (ih (record { no_c = refl; word = tt }))
+bare_step class.FirstOfBoot l starts at ts is s x ih = takes l ts is.line.plain.no_comment (ih (record { no_c = refl; word = tt }))
+bare_step class.Further l starts at ts is s x ih = takes l ts is.plain.no_comment (ih (further_xs at))
+bare_step class.Blank l starts at ts is s x ih = takes l ts is.plain.no_comment (ih (blank_xs at))
+
+bare_xs : (ls : List Line) (pod : Bool) (at : Place) → InXs at → Same (tags_from pod at ls)
+unfolding tags_from
+bare_xs [] pod at x = refl
+bare_xs (l ∷ ls) pod at x =
+    let c : Class = class_of pod at l.text in
+    let m : Means at l.text c = class_of_means pod at l.text in
+    let t : Tag = tag_of pod at l in
+    bare_step c l t.starts at (tags_from (pod_behind pod c) (place_behind at c) ls) m.is_of m.stands x
+    (λ y. bare_xs ls (pod_behind pod c) (place_behind at c) y)
+
+-- ---- from the C part on
+
+abbrev FromModule : List Tag → Type 0
+FromModule ts = bare ts ≡ without_comments (from_module (kept ts))
+
+from_step : (c : Class) (l : Line) (starts : Bool) (ts : List Tag) → IsOf l.text c → Fits place.CPart (l ∷ []) c
+    → (place_behind place.CPart c ≡ place.CPart → FromModule ts) → (InXs (place_behind place.CPart c) → Same ts) → FromModule (tag c l starts ∷ ts)
+from_step class.PodBegin l starts ts is fits ih xs = ih refl
+from_step class.PodLine l starts ts is fits ih xs = ih refl
+from_step class.PodEnd l starts ts is fits ih xs = ih refl
+from_step class.C l starts ts is fits ih xs = rw is.1 (ih refl)
+from_step class.Comment l starts ts is fits ih xs = absurd (false≢true (sym fits))
+from_step class.Directive l starts ts is fits ih xs = absurd (false≢true (sym fits))
+from_step (class.Module names) l starts ts is fits ih xs =
+    rw is.first_word (takes l ts (module_no_comment l.text is.first_word) (xs (record { no_c = refl; word = tt })))
+from_step class.BadModule l starts ts is fits ih xs =
+    rw is.first_word (takes l ts (module_no_comment l.text is.first_word) (xs (record { no_c = refl; word = tt })))
+from_step class.Outside l starts ts is fits ih xs = absurd (false≢true (sym fits.no_c))
+from_step class.Keyword l starts ts is fits ih xs = absurd (false≢true (sym fits.no_c))
+from_step class.BadValue l starts ts is fits ih xs = absurd (false≢true (sym fits.no_c))
+from_step (class.LeftOut word) l starts ts is fits ih xs = absurd (false≢true (sym fits.no_c))
+from_step (class.MapBegin end) l starts ts is fits ih xs = absurd (false≢true (sym fits.no_c))
+from_step class.MapLine l starts ts is fits ih xs = absurd (false≢true fits)
+from_step class.MapEnd l starts ts is fits ih xs = absurd (false≢true fits)
+from_step class.First l starts ts is fits ih xs = absurd (false≢true (sym fits.no_c))
+from_step class.FirstOfBoot l starts ts is fits ih xs = absurd (false≢true (sym fits.no_c))
+from_step class.Further l starts ts is fits ih xs = absurd (false≢true (sym fits.no_c))
+from_step class.Blank l starts ts is fits ih xs = absurd (false≢true (sym fits.no_c))
+
+from_c : (ls : List Line) (pod : Bool) → FromModule (tags_from pod place.CPart ls)
+unfolding tags_from
+from_c [] pod = refl
+from_c (l ∷ ls) pod =
+    let c : Class = class_of pod place.CPart l.text in
+    let m : Means place.CPart l.text c = class_of_means pod place.CPart l.text in
+    let f : Can place.CPart (l ∷ []) c = class_of_fits pod place.CPart (l ∷ []) (λ e. tt) l.text in
+    let t : Tag = tag_of pod place.CPart l in
+    let P : Place → Type 0 = λ at. FromModule (tags_from (pod_behind pod c) at ls) in
+    from_step c l t.starts (tags_from (pod_behind pod c) (place_behind place.CPart c) ls) m.is_of f.fits
+    (λ e. subst P (sym e) (from_c ls (pod_behind pod c)))
+    (λ y. bare_xs ls (pod_behind pod c) (place_behind place.CPart c) y)
+
+pub bare_is : (ls : List Line) → bare (tags_of ls) ≡ without_comments (from_module (kept (tags_of ls)))
+bare_is ls = from_c ls false

@@ -1,0 +1,147 @@
+-- Which classes a line can have at a place.
+use Rattle.std.proofs.Common.{◌≡◌, ℕ, Bool, true, false, not, ◌&&◌, ◌||◌, ◌==◌, if◌then◌else◌, List, [], ◌∷◌, ◌++◌, Option, None, Some, refl}
+use Rattle.std.specs.Prelude.{codes}
+use Rattle.std.specs.Str.{bytes_eq}
+use Rattle.xs_base.specs.declared.place.Line.{Line}
+use Rattle.xs_sections.specs.Text.{is_empty, trimmed, front, behind_front, begins_with_byte, is_capital}
+use Rattle.xs_sections.specs.Marks.{begins_pod, ends_pod, is_comment, is_directive, is_module_line, begins_with}
+use Rattle.xs_sections.specs.ModuleLine.{module_class, class_by_names, module_names}
+use Rattle.xs_sections.specs.Keywords as keyword
+use Rattle.xs_sections.specs.Classes.{is_in_text, opens_paragraph, comment_class, paragraph_class, xs_class, class_at, class_of}
+use Rattle.xs_sections.specs.Steps.{is_map, is_c_part}
+use Rattle.xs_sections.specs.declared.class.Class.{Class}
+use Rattle.xs_sections.specs.declared.class.Class.TheVariants as class
+use Rattle.xs_sections.specs.declared.class.ModuleNames.{ModuleNames}
+use Rattle.xs_sections.specs.declared.class.Place.{Place}
+use Rattle.xs_sections.specs.declared.class.Place.TheVariants as place
+
+-- there is a line
+abbrev pub HasLine : List Line → Type 0
+HasLine [] = ⊥
+HasLine (line ∷ lines) = Unit {0}
+
+pub HasLine-push : (lines : List Line) (line : Line) → HasLine (lines ++ line ∷ [])
+HasLine-push [] line = tt
+HasLine-push (first ∷ lines) line = tt
+
+-- a paragraph that stands open has a line
+abbrev pub Good : Place → List Line → Type 0
+Good at lines = is_in_text at ≡ true → HasLine lines
+
+pub record IsHead (at : Place) : Type 0 where
+  pub no_map : is_map at ≡ false
+  pub no_c : is_c_part at ≡ false
+
+pub record IsGoing (at : Place) (lines : List Line) : Type 0 where
+  pub no_map : is_map at ≡ false
+  pub no_c : is_c_part at ≡ false
+  pub some : HasLine lines
+
+pub record IsOutside (at : Place) : Type 0 where
+  pub no_map : is_map at ≡ false
+  pub no_c : is_c_part at ≡ false
+  pub no_text : is_in_text at ≡ false
+
+abbrev pub Fits : Place → List Line → Class → Type 0
+Fits at lines class.PodBegin = Unit {0}
+Fits at lines class.PodLine = Unit {0}
+Fits at lines class.PodEnd = Unit {0}
+Fits at lines class.C = Unit {0}
+Fits at lines class.Comment = is_c_part at ≡ false
+Fits at lines class.Directive = is_c_part at ≡ false
+Fits at lines (class.Module names) = is_map at ≡ false
+Fits at lines class.BadModule = is_map at ≡ false
+Fits at lines class.Outside = IsOutside at
+Fits at lines class.Keyword = IsHead at
+Fits at lines class.BadValue = IsHead at
+Fits at lines (class.LeftOut word) = IsHead at
+Fits at lines (class.MapBegin end) = IsHead at
+Fits at lines class.MapLine = is_map at ≡ true
+Fits at lines class.MapEnd = is_map at ≡ true
+Fits at lines class.First = IsHead at
+Fits at lines class.FirstOfBoot = IsHead at
+Fits at lines class.Further = IsGoing at lines
+Fits at lines class.Blank = IsGoing at lines
+
+-- the same as a record, so that the class can be read from it
+pub record Can (at : Place) (lines : List Line) (class : Class) : Type 0 where
+  pub fits : Fits at lines class
+
+by_if : {at : Place} {lines : List Line} (b : Bool) {c d : Class} → Can at lines c → Can at lines d → Can at lines (if b then c else d)
+by_if true p q = p
+by_if false p q = q
+
+module _ (at : Place) (lines : List Line) where
+  abbrev F : Class → Type 0
+  F = Can at lines
+
+  can : (c : Class) → Fits at lines c → F c
+  can c h = record { fits = h }
+
+  comment_fits : is_c_part at ≡ false → (text : List ℕ) → F (comment_class text)
+  comment_fits h text = by_if (is_directive text) (can class.Directive h) (can class.Comment h)
+
+  module_fits : is_map at ≡ false → (text : List ℕ) → F (module_class text)
+  module_fits h text = by_names (module_names text)
+    where
+      by_names : (names : Option ModuleNames) → F (class_by_names names)
+      by_names None = can class.BadModule h
+      by_names (Some names) = can (class.Module names) h
+
+  module _ (h : IsHead at) where
+    text_fits : (line : List ℕ) → F (keyword.text_class line)
+    text_fits line = by_if (begins_with (codes "BOOT:") line) (can class.FirstOfBoot h) (can class.First h)
+
+    value_fits : (b : Bool) → F (keyword.value_class b)
+    value_fits b = by_if b (can class.Keyword h) (can class.BadValue h)
+
+    map_fits : (word : Option (List ℕ)) → F (keyword.map_class word)
+    map_fits None = can class.BadValue h
+    map_fits (Some word) = can (class.MapBegin word) h
+
+    word_fits : (word value line : List ℕ) → F (keyword.word_class word value line)
+    unfolding keyword.word_class
+    word_fits word value line =
+        by_if (bytes_eq word (codes "PROTOTYPES") || bytes_eq word (codes "VERSIONCHECK")) (value_fits (keyword.is_switch (keyword.only_word value)))
+        (by_if (bytes_eq word (codes "REQUIRE")) (value_fits (keyword.is_some_word (keyword.only_word value)))
+        (by_if (bytes_eq word (codes "FALLBACK")) (value_fits (keyword.is_fallback (keyword.only_word value)))
+        (by_if (bytes_eq word (codes "TYPEMAP")) (map_fits (keyword.block_end (keyword.only_word value)))
+        (by_if (keyword.is_left_out word && not (begins_with_byte (λ b. b == 58) value)) (can (class.LeftOut word) h) (text_fits line)))))
+
+    behind_word_fits : (word more line : List ℕ) → F (keyword.class_behind_word word more line)
+    behind_word_fits word [] line = text_fits line
+    behind_word_fits word (b ∷ value) line = by_if (b == 58) (word_fits word value line) (text_fits line)
+
+    head_fits : (line : List ℕ) → F (keyword.head_class line)
+    head_fits line = behind_word_fits (front is_capital line) (trimmed (behind_front is_capital line)) line
+
+  paragraph_fits : IsHead at → Good at lines → (text : List ℕ) → F (paragraph_class at text)
+  paragraph_fits h good text = by_text (is_in_text at) refl
+    where
+      by_text : (b : Bool) → is_in_text at ≡ b
+          → F (if is_empty text then (if b then class.Blank else class.Outside) else (if b && not (opens_paragraph at text) then class.Further else keyword.head_class text))
+      by_text true e =
+          let going : IsGoing at lines = record { no_map = h.no_map; no_c = h.no_c; some = good e } in
+          by_if (is_empty text) (can class.Blank going) (by_if (not (opens_paragraph at text)) (can class.Further going) (head_fits h text))
+      by_text false e =
+          by_if (is_empty text) (can class.Outside (record { no_map = h.no_map; no_c = h.no_c; no_text = e })) (head_fits h text)
+
+  xs_fits : IsHead at → Good at lines → (text : List ℕ) → F (xs_class at text)
+  xs_fits h good text = by_if (is_comment text) (comment_fits h.no_c text) (by_if (is_module_line text) (module_fits h.no_map text) (paragraph_fits h good text))
+
+class_at_fits : (at : Place) (lines : List Line) → Good at lines → (text : List ℕ) → Can at lines (class_at at text)
+unfolding class_at
+class_at_fits place.CPart lines good text = by_if (is_module_line text) (module_fits place.CPart lines refl text) (can place.CPart lines class.C tt)
+class_at_fits (place.Map end) lines good text =
+    by_if (bytes_eq text end) (can (place.Map end) lines class.MapEnd refl)
+    (by_if (is_comment text) (comment_fits (place.Map end) lines refl text) (can (place.Map end) lines class.MapLine refl))
+class_at_fits place.Between lines good text = xs_fits place.Between lines (record { no_map = refl; no_c = refl }) good text
+class_at_fits place.Head lines good text = xs_fits place.Head lines (record { no_map = refl; no_c = refl }) good text
+class_at_fits place.HeadGap lines good text = xs_fits place.HeadGap lines (record { no_map = refl; no_c = refl }) good text
+class_at_fits place.Body lines good text = xs_fits place.Body lines (record { no_map = refl; no_c = refl }) good text
+class_at_fits place.BodyGap lines good text = xs_fits place.BodyGap lines (record { no_map = refl; no_c = refl }) good text
+class_at_fits place.Boot lines good text = xs_fits place.Boot lines (record { no_map = refl; no_c = refl }) good text
+
+pub class_of_fits : (pod : Bool) (at : Place) (lines : List Line) → Good at lines → (text : List ℕ) → Can at lines (class_of pod at text)
+class_of_fits true at lines good text = by_if (ends_pod text) (can at lines class.PodEnd tt) (can at lines class.PodLine tt)
+class_of_fits false at lines good text = by_if (begins_pod text) (can at lines class.PodBegin tt) (class_at_fits at lines good text)

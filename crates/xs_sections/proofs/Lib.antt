@@ -1,0 +1,12 @@
+pub mod TextSteps
+pub mod Fits
+pub mod Whole
+pub mod Meanings
+pub mod Parts
+pub mod CPart
+pub mod Firsts
+pub mod XsParts
+pub mod Bare
+pub mod Only
+pub mod LastModule
+pub mod Hold

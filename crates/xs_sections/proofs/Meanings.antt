@@ -1,0 +1,238 @@
+-- What each line is by its own text, and which classes can stand at a place.
+use Rattle.std.proofs.Common.{◌≡◌, ℕ, Bool, true, false, not, ◌&&◌, ◌||◌, ◌==◌, if◌then◌else◌, List, [], ◌∷◌, Option, None, Some, refl, sym, ◌∙◌}
+use Rattle.std.specs.Prelude.{codes, option_and_then}
+use Rattle.std.specs.Str.{bytes_eq}
+use Rattle.std.proofs.lemmas.Bool.{false≢true}
+use Rattle.xs_sections.specs.Text.{is_empty, trimmed, front, behind_front, behind, begins_with_byte, is_capital, is_in_word, is_identifier}
+use Rattle.xs_sections.specs.Marks.{begins_pod, ends_pod, is_comment, is_directive, is_module_line, begins_with}
+use Rattle.xs_sections.specs.ModuleLine.{module_class, class_by_names, module_names}
+use Rattle.xs_sections.specs.Keywords as keyword
+use Rattle.xs_sections.specs.Classes.{is_in_text, is_head, opens_paragraph, comment_class, paragraph_class, xs_class, class_at, class_of}
+use Rattle.xs_sections.specs.Laws.{IsPlain, IsLine, IsOf, is_no_pod}
+use Rattle.xs_sections.specs.Steps.{is_c_part}
+use Rattle.xs_sections.specs.declared.class.Class.{Class}
+use Rattle.xs_sections.specs.declared.class.Class.TheVariants as class
+use Rattle.xs_sections.specs.declared.class.ModuleNames.{ModuleNames}
+use Rattle.xs_sections.specs.declared.class.Place.{Place}
+use Rattle.xs_sections.specs.declared.class.Place.TheVariants as place
+
+-- what a line that goes on with a paragraph says of its place
+pub record GoesOn (at : Place) (text : List ℕ) : Type 0 where
+  pub in_text : is_in_text at ≡ true
+  pub no_end : opens_paragraph at text ≡ false
+
+-- a line of a typemap block, and whether it is the end word
+abbrev pub IsEnd : Place → List ℕ → Bool → Type 0
+IsEnd (place.Map end) text b = bytes_eq text end ≡ b
+IsEnd _ text b = ⊥
+
+-- A line of which a paragraph can begin stands where the one before it ends.
+abbrev pub EndsHere : Place → List ℕ → Type 0
+EndsHere at text = is_in_text at ≡ true → opens_paragraph at text ≡ true
+
+-- what a class says of its place
+abbrev pub StandsAt : Place → List ℕ → Class → Type 0
+StandsAt at text class.C = is_c_part at ≡ true
+StandsAt at text class.Outside = is_in_text at ≡ false
+StandsAt at text class.MapLine = IsEnd at text false
+StandsAt at text class.MapEnd = IsEnd at text true
+StandsAt at text class.Keyword = EndsHere at text
+StandsAt at text class.BadValue = EndsHere at text
+StandsAt at text (class.LeftOut word) = EndsHere at text
+StandsAt at text (class.MapBegin end) = EndsHere at text
+StandsAt at text class.First = EndsHere at text
+StandsAt at text class.FirstOfBoot = EndsHere at text
+StandsAt at text class.Further = GoesOn at text
+StandsAt at text class.Blank = is_in_text at ≡ true
+StandsAt at text _ = Unit {0}
+
+pub record Means (at : Place) (text : List ℕ) (class : Class) : Type 0 where
+  pub is_of : IsOf text class
+  pub stands : StandsAt at text class
+
+-- the same of a line that is no POD
+pub record MeansOutside (at : Place) (text : List ℕ) (class : Class) : Type 0 where
+  pub is_of : IsOf text class
+  pub stands : StandsAt at text class
+  pub no_pod : is_no_pod class ≡ true
+
+by_test : {at : Place} {text : List ℕ} (b : Bool) {c d : Class} → (b ≡ true → MeansOutside at text c) → (b ≡ false → MeansOutside at text d) → MeansOutside at text (if b then c else d)
+by_test true p q = p refl
+by_test false p q = q refl
+
+-- ---- the head of a paragraph
+
+-- one of the classes of which a paragraph can begin
+record Heads (line : List ℕ) (c : Class) : Type 0 where
+  is : is_head c ≡ true
+  no_boot : c ≡ class.First → begins_with (codes "BOOT:") line ≡ false
+  boot : c ≡ class.FirstOfBoot → begins_with (codes "BOOT:") line ≡ true
+  end : (word : List ℕ) → c ≡ class.MapBegin word → is_identifier word ≡ true
+
+by_if : {line : List ℕ} (b : Bool) {c d : Class} → Heads line c → Heads line d → Heads line (if b then c else d)
+by_if true p q = p
+by_if false p q = q
+
+-- The end word of a typemap block is an identifier.
+end_word_is : (word closing end : List ℕ) → keyword.end_word_of word closing ≡ Some end → is_identifier end ≡ true
+end_word_is word closing end e = by_tests (is_identifier word) (keyword.is_closing closing) refl e
+  where
+    by_tests : (a b : Bool) → is_identifier word ≡ a → (let o : Option (List ℕ) = if a && b then Some word else None in o) ≡ Some end → is_identifier end ≡ true
+    by_tests true true h e = let f : word ≡ end = cc in rw (← f) h
+    by_tests true false h e = absurd cc
+    by_tests false b h e = absurd cc
+
+quoted_is : (quote : ℕ) (word more end : List ℕ) → keyword.quoted_word quote word more ≡ Some end → is_identifier end ≡ true
+quoted_is quote word [] end e = absurd cc
+quoted_is quote word (b ∷ closing) end e = by_quote (b == quote) e
+  where
+    by_quote : (q : Bool) → (if q then keyword.end_word_of word closing else None) ≡ Some end → is_identifier end ≡ true
+    by_quote true h = end_word_is word closing end h
+    by_quote false h = absurd cc
+
+end_is : (text end : List ℕ) → keyword.end_word text ≡ Some end → is_identifier end ≡ true
+end_is [] end e = absurd cc
+end_is (b ∷ bs) end e = by_quotes (b == 34 || b == 39) e
+  where
+    by_quotes : (q : Bool)
+        → (if q then keyword.quoted_word b (front is_in_word bs) (behind_front is_in_word bs) else keyword.end_word_of (front is_in_word (b ∷ bs)) (behind_front is_in_word (b ∷ bs))) ≡ Some end
+        → is_identifier end ≡ true
+    by_quotes true h = quoted_is b (front is_in_word bs) (behind_front is_in_word bs) end h
+    by_quotes false h = end_word_is (front is_in_word (b ∷ bs)) (behind_front is_in_word (b ∷ bs)) end h
+
+block_end_word : (value end : List ℕ) → keyword.block_end value ≡ Some end → is_identifier end ≡ true
+block_end_word value end e = by_mark (behind (codes "<<") value) e
+  where
+    by_mark : (o : Option (List ℕ)) → option_and_then keyword.end_word o ≡ Some end → is_identifier end ≡ true
+    by_mark None h = absurd cc
+    by_mark (Some word) h = end_is word end h
+
+module _ (line : List ℕ) where
+  text_heads : Heads line (keyword.text_class line)
+  text_heads = by_boot (begins_with (codes "BOOT:") line) refl
+    where
+      by_boot : (b : Bool) → begins_with (codes "BOOT:") line ≡ b → Heads line (if b then class.FirstOfBoot else class.First)
+      by_boot true e = record { is = refl; no_boot = λ h. absurd cc; boot = λ h. e; end = λ word h. absurd cc }
+      by_boot false e = record { is = refl; no_boot = λ h. e; boot = λ h. absurd cc; end = λ word h. absurd cc }
+
+  keyword_heads : Heads line class.Keyword
+  keyword_heads = record { is = refl; no_boot = λ h. absurd cc; boot = λ h. absurd cc; end = λ word h. absurd cc }
+
+  bad_heads : Heads line class.BadValue
+  bad_heads = record { is = refl; no_boot = λ h. absurd cc; boot = λ h. absurd cc; end = λ word h. absurd cc }
+
+  value_heads : (b : Bool) → Heads line (keyword.value_class b)
+  value_heads b = by_if b keyword_heads bad_heads
+
+  map_heads : (word : Option (List ℕ)) → ((end : List ℕ) → word ≡ Some end → is_identifier end ≡ true) → Heads line (keyword.map_class word)
+  map_heads None h = bad_heads
+  map_heads (Some word) h =
+      record { is = refl; no_boot = λ e. absurd cc; boot = λ e. absurd cc; end = λ other e. same word other e (h word refl) }
+    where
+      same : (word other : List ℕ) → class.MapBegin word ≡ class.MapBegin other → is_identifier word ≡ true → is_identifier other ≡ true
+      same word other e h = let f : word ≡ other = cc in rw (← f) h
+
+  left_out_heads : (word : List ℕ) → Heads line (class.LeftOut word)
+  left_out_heads word = record { is = refl; no_boot = λ h. absurd cc; boot = λ h. absurd cc; end = λ word h. absurd cc }
+
+  word_heads : (word value : List ℕ) → Heads line (keyword.word_class word value line)
+  unfolding keyword.word_class
+  word_heads word value =
+      by_if (bytes_eq word (codes "PROTOTYPES") || bytes_eq word (codes "VERSIONCHECK")) (value_heads (keyword.is_switch (keyword.only_word value)))
+      (by_if (bytes_eq word (codes "REQUIRE")) (value_heads (keyword.is_some_word (keyword.only_word value)))
+      (by_if (bytes_eq word (codes "FALLBACK")) (value_heads (keyword.is_fallback (keyword.only_word value)))
+      (by_if (bytes_eq word (codes "TYPEMAP")) (map_heads (keyword.block_end (keyword.only_word value)) (block_end_word (keyword.only_word value)))
+      (by_if (keyword.is_left_out word && not (begins_with_byte (λ b. b == 58) value)) (left_out_heads word) text_heads))))
+
+  behind_word_heads : (word more : List ℕ) → Heads line (keyword.class_behind_word word more line)
+  behind_word_heads word [] = text_heads
+  behind_word_heads word (b ∷ value) = by_if (b == 58) (word_heads word value) text_heads
+
+  head_heads : Heads line (keyword.head_class line)
+  head_heads = behind_word_heads (front is_capital line) (trimmed (behind_front is_capital line))
+
+  -- a line that is read as the first of a paragraph is no BOOT line
+  pub first_no_boot : keyword.head_class line ≡ class.First → begins_with (codes "BOOT:") line ≡ false
+  first_no_boot e = let h : Heads line (keyword.head_class line) = head_heads in h.no_boot e
+
+  pub end_identifier : (end : List ℕ) → keyword.head_class line ≡ class.MapBegin end → is_identifier end ≡ true
+  end_identifier end e = let h : Heads line (keyword.head_class line) = head_heads in h.end end e
+
+  pub boot_begins : keyword.head_class line ≡ class.FirstOfBoot → begins_with (codes "BOOT:") line ≡ true
+  boot_begins e = let h : Heads line (keyword.head_class line) = head_heads in h.boot e
+
+-- ---- by the class
+
+module _ (at : Place) (text : List ℕ) where
+  abbrev M : Class → Type 0
+  M = MeansOutside at text
+
+  by_head : (c : Class) → is_head c ≡ true → keyword.head_class text ≡ c → IsLine text false → EndsHere at text → M c
+  by_head class.Keyword h e l s = record { is_of = record { line = l; reads = e }; stands = s; no_pod = refl }
+  by_head class.BadValue h e l s = record { is_of = record { line = l; reads = e }; stands = s; no_pod = refl }
+  by_head (class.LeftOut word) h e l s = record { is_of = record { line = l; reads = e }; stands = s; no_pod = refl }
+  by_head (class.MapBegin end) h e l s = record { is_of = record { line = l; reads = e }; stands = s; no_pod = refl }
+  by_head class.First h e l s = record { is_of = record { line = l; reads = e }; stands = s; no_pod = refl }
+  by_head class.FirstOfBoot h e l s = record { is_of = record { line = l; reads = e }; stands = s; no_pod = refl }
+  by_head _ h e l s = absurd (false≢true h)
+
+  head_means : IsLine text false → EndsHere at text → M (keyword.head_class text)
+  head_means l s = let h : Heads text (keyword.head_class text) = head_heads text in by_head (keyword.head_class text) h.is refl l s
+
+  module _ (no_pod : begins_pod text ≡ false) where
+    comment_means : is_comment text ≡ true → M (comment_class text)
+    comment_means h =
+        by_test (is_directive text)
+        (λ e. record { is_of = record { no_pod = no_pod; comment = h; directive_is = e }; stands = tt; no_pod = refl })
+        (λ e. record { is_of = record { no_pod = no_pod; comment = h; directive_is = e }; stands = tt; no_pod = refl })
+
+    module_means : is_module_line text ≡ true → M (module_class text)
+    module_means h = by_names (module_names text) refl
+      where
+        by_names : (names : Option ModuleNames) → module_names text ≡ names → M (class_by_names names)
+        by_names None e = record { is_of = record { no_pod = no_pod; first_word = h; names_are = e }; stands = tt; no_pod = refl }
+        by_names (Some names) e = record { is_of = record { no_pod = no_pod; first_word = h; names_are = e }; stands = tt; no_pod = refl }
+
+    paragraph_means : IsPlain text → M (paragraph_class at text)
+    paragraph_means plain = by_text (is_in_text at) refl
+      where
+        line : (b : Bool) → is_empty text ≡ b → IsLine text b
+        line b e = record { plain = plain; empty_is = e }
+
+        by_end : (o : Bool) → opens_paragraph at text ≡ o → is_in_text at ≡ true → is_empty text ≡ false → M (if not o then class.Further else keyword.head_class text)
+        by_end true e t l = head_means (line false l) (λ h. e)
+        by_end false e t l = record { is_of = line false l; stands = record { in_text = t; no_end = e }; no_pod = refl }
+
+        by_text : (b : Bool) → is_in_text at ≡ b
+            → M (if is_empty text then (if b then class.Blank else class.Outside) else (if b && not (opens_paragraph at text) then class.Further else keyword.head_class text))
+        by_text true t =
+            by_test (is_empty text) (λ e. record { is_of = line true e; stands = t; no_pod = refl }) (λ e. by_end (opens_paragraph at text) refl t e)
+        by_text false t =
+            by_test (is_empty text) (λ e. record { is_of = line true e; stands = t; no_pod = refl }) (λ e. head_means (line false e) (λ h. absurd (false≢true (sym t ∙ h))))
+
+    xs_means : M (xs_class at text)
+    xs_means =
+        by_test (is_comment text) comment_means
+        (λ c. by_test (is_module_line text) module_means (λ m. paragraph_means (record { no_pod = no_pod; no_comment = c; no_module = m })))
+
+pub class_at_means : (at : Place) (text : List ℕ) → begins_pod text ≡ false → MeansOutside at text (class_at at text)
+unfolding class_at
+class_at_means place.CPart text p =
+    by_test (is_module_line text) (module_means place.CPart text p) (λ m. record { is_of = (p, m); stands = refl; no_pod = refl })
+class_at_means (place.Map end) text p =
+    by_test (bytes_eq text end) (λ e. record { is_of = p; stands = e; no_pod = refl })
+    (λ e. by_test (is_comment text) (comment_means (place.Map end) text p) (λ c. record { is_of = (p, c); stands = e; no_pod = refl }))
+class_at_means place.Between text p = xs_means place.Between text p
+class_at_means place.Head text p = xs_means place.Head text p
+class_at_means place.HeadGap text p = xs_means place.HeadGap text p
+class_at_means place.Body text p = xs_means place.Body text p
+class_at_means place.BodyGap text p = xs_means place.BodyGap text p
+class_at_means place.Boot text p = xs_means place.Boot text p
+
+by_pod : {at : Place} {text : List ℕ} (b : Bool) {c d : Class} → (b ≡ true → Means at text c) → (b ≡ false → Means at text d) → Means at text (if b then c else d)
+by_pod true p q = p refl
+by_pod false p q = q refl
+
+pub class_of_means : (pod : Bool) (at : Place) (text : List ℕ) → Means at text (class_of pod at text)
+class_of_means true at text = by_pod (ends_pod text) (λ e. record { is_of = e; stands = tt }) (λ e. record { is_of = e; stands = tt })
+class_of_means false at text = by_pod (begins_pod text) (λ e. record { is_of = e; stands = tt }) (λ e. let m : MeansOutside at text (class_at at text) = class_at_means at text e in record { is_of = m.is_of; stands = m.stands })

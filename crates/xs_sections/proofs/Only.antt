@@ -1,0 +1,235 @@
+-- A file can be split in one way only.
+use Rattle.std.proofs.Common.{◌≡◌, ℕ, Bool, true, false, if◌then◌else◌, List, [], ◌∷◌, ◌++◌, ◌⊎◌, inl, inr, All, Option, None, Some, refl, ap, sym, subst, ◌∙◌}
+use Rattle.std.specs.Prelude.{codes}
+use Rattle.std.specs.Str.{bytes_eq}
+use Rattle.std.proofs.lemmas.Bool.{false≢true}
+use Rattle.std.proofs.lemmas.List.Elements.{All-head, All-tail}
+use Rattle.xs_base.specs.declared.place.Line.{Line}
+use Rattle.xs_sections.specs.Text.{is_empty, is_in_word, is_blank, trimmed, front}
+use Rattle.xs_sections.specs.Marks.{begins_with, begins_pod, ends_pod, is_module_line}
+use Rattle.xs_sections.specs.ModuleLine.{module_names}
+use Rattle.xs_sections.specs.Keywords.{head_class}
+use Rattle.xs_sections.specs.Cut.{map_of, paragraph_of}
+use Rattle.xs_sections.specs.Laws.{IsPlain, IsLine, IsHeadLine, IsParagraphHead, IsParagraph, HoldsTogether, EndsAtGap, EndsBefore, last_line, WithoutPod, XsPart, before_module, from_module, without_comments, IsSplit, IsOnlySplit}
+use Rattle.xs_sections.specs.Laws as law
+use Rattle.xs_sections.specs.declared.class.Class.{Class}
+use Rattle.xs_sections.specs.declared.class.Class.TheVariants as class
+use Rattle.xs_sections.specs.declared.class.ModuleNames.{ModuleNames}
+use Rattle.xs_sections.specs.declared.sections.Part.{Part}
+use Rattle.xs_sections.specs.declared.sections.Sections.{Sections}
+
+-- ---- a stretch up to the first line that passes a test
+
+record SameStretch (inner other rest more : List Line) : Type 0 where
+  same : inner ≡ other
+  behind : rest ≡ more
+
+same_head : {x y : Line} {xs ys : List Line} → x ∷ xs ≡ y ∷ ys → x ≡ y
+same_head e = cc
+
+same_tail : {x y : Line} {xs ys : List Line} → x ∷ xs ≡ y ∷ ys → xs ≡ ys
+same_tail e = cc
+
+module _ (passes : Line → Bool) where
+  abbrev NotYet : Line → Type 0
+  NotYet l = passes l ≡ false
+
+  clash : (x y : Line) → x ≡ y → passes x ≡ true → passes y ≡ false → ⊥
+  clash x y e p q = false≢true (sym q ∙ ap passes (sym e) ∙ p)
+
+  same_stretch : (inner other : List Line) (last end : Line) (rest more : List Line) → All NotYet inner → All NotYet other → passes last ≡ true → passes end ≡ true
+      → inner ++ last ∷ rest ≡ other ++ end ∷ more → SameStretch inner other rest more
+  same_stretch [] [] last end rest more a b p q e = record { same = refl; behind = same_tail e }
+  same_stretch [] (y ∷ other) last end rest more a b p q e = absurd (clash last y (same_head e) p (All-head NotYet y other b))
+  same_stretch (x ∷ inner) [] last end rest more a b p q e = absurd (clash end x (sym (same_head e)) q (All-head NotYet x inner a))
+  same_stretch (x ∷ inner) (y ∷ other) last end rest more a b p q e =
+      let s : SameStretch inner other rest more = same_stretch inner other last end rest more (All-tail NotYet x inner a) (All-tail NotYet y other b) p q (same_tail e) in
+      record { same = ap (λ (l : Line). l ∷ inner) (same_head e) ∙ ap (λ (ls : List Line). y ∷ ls) s.same; behind = s.behind }
+
+-- ---- POD
+
+same_pod : {ls rest : List Line} → WithoutPod ls rest → (ms more : List Line) → ls ≡ ms → WithoutPod ms more → rest ≡ more
+same_pod law.done ms more e law.done = refl
+same_pod law.done ms more e (law.keeps n w) = absurd cc
+same_pod law.done ms more e (law.skips inner last b i p w) = absurd cc
+same_pod (law.keeps m v) ms more e law.done = absurd cc
+same_pod (law.keeps {line = x} {lines = xs} {rest = r} m v) ms more e (law.keeps {line = y} {lines = ys} {rest = s} n w) =
+    let h : r ≡ s = same_pod v ys s (same_tail e) w in ap (λ (l : Line). l ∷ r) (same_head e) ∙ ap (λ (ls : List Line). y ∷ ls) h
+same_pod (law.keeps {line = x} m v) ms more e (law.skips {first = y} inner last b i p w) =
+    absurd (false≢true (sym m ∙ ap (λ (l : Line). begins_pod l.text) (same_head e) ∙ b))
+same_pod (law.skips inner last b i p v) ms more e law.done = absurd cc
+same_pod (law.skips {first = x} inner last b i p v) ms more e (law.keeps {line = y} n w) =
+    absurd (false≢true (sym n ∙ ap (λ (l : Line). begins_pod l.text) (sym (same_head e)) ∙ b))
+same_pod (law.skips {first = x} inner last {lines = xs} {rest = r} b i p v) ms more e (law.skips {first = y} other end {lines = ys} {rest = s} c j q w) =
+    let h : SameStretch inner other xs ys = same_stretch (λ (l : Line). ends_pod l.text) inner other last end xs ys i j p q (same_tail e) in
+    same_pod v ys s h.behind w
+
+-- ---- paragraphs
+
+abbrev IsPlainLine : Line → Type 0
+IsPlainLine l = IsPlain l.text
+
+-- what goes on behind a line of a paragraph, up to its end
+record Goes (first last : Line) (ls rest : List Line) : Type 0 where
+  plain : All IsPlainLine ls
+  together : HoldsTogether last ls
+  last_gap : begins_with (codes "BOOT:") first.text ≡ true → is_empty last.text ≡ true → ls ≡ []
+  gap : begins_with (codes "BOOT:") first.text ≡ true → EndsAtGap ls
+  ends : EndsBefore first (last_line last ls) rest
+
+no_more : (first last y : Line) (g : List Line) (rest : List Line) → EndsBefore first last (y ∷ rest) → All IsPlainLine (y ∷ g) → HoldsTogether last (y ∷ g)
+    → (begins_with (codes "BOOT:") first.text ≡ true → is_empty last.text ≡ true → y ∷ g ≡ []) → ⊥
+no_more first last y g rest (inl m) plain together gap =
+    let p : IsPlain y.text = All-head IsPlainLine y g plain in false≢true (sym p.no_module ∙ m)
+no_more first last y g rest (inr (empty, inl boot)) plain together gap = let no_line : y ∷ g ≡ [] = gap boot empty in cc
+no_more first last y g rest (inr (empty, inr flush)) plain together gap = false≢true (sym (together.0 empty) ∙ flush)
+
+ends_at : (first last x : Line) (xs rest : List Line) → rest ≡ x ∷ xs → EndsBefore first last rest → EndsBefore first last (x ∷ xs)
+ends_at first last x xs rest e h = let P : List Line → Type 0 = λ ls. EndsBefore first last ls in subst P e h
+
+next_goes : (first last x : Line) (ls rest : List Line) → Goes first last (x ∷ ls) rest → Goes first x ls rest
+next_goes first last x ls rest g =
+    record {
+      plain = All-tail IsPlainLine x ls g.plain;
+      together = g.together.1;
+      last_gap = λ boot. (g.gap boot).0;
+      gap = λ boot. (g.gap boot).1;
+      ends = g.ends;
+    }
+
+same_further : (f g : List Line) (first last : Line) (rest more : List Line) → f ++ rest ≡ g ++ more → Goes first last f rest → Goes first last g more → SameStretch f g rest more
+same_further [] [] first last rest more e a b = record { same = refl; behind = e }
+same_further [] (y ∷ g) first last rest more e a b =
+    absurd (no_more first last y g (g ++ more) (ends_at first last y (g ++ more) rest e a.ends) b.plain b.together b.last_gap)
+same_further (x ∷ f) [] first last rest more e a b =
+    absurd (no_more first last x f (f ++ rest) (ends_at first last x (f ++ rest) more (sym e) b.ends) a.plain a.together a.last_gap)
+same_further (x ∷ f) (y ∷ g) first last rest more e a b =
+    let P : Line → Type 0 = λ l. Goes first l g more in
+    let s : SameStretch f g rest more =
+    same_further f g first x rest more (same_tail e) (next_goes first last x f rest a) (subst P (sym (same_head e)) (next_goes first last y g more b)) in
+    record { same = ap (λ (l : Line). l ∷ f) (same_head e) ∙ ap (λ (ls : List Line). y ∷ ls) s.same; behind = s.behind }
+
+first_goes : (first : Line) (further rest : List Line) → IsParagraph first further → EndsBefore first (last_line first further) rest → Goes first first further rest
+first_goes first further rest p e =
+    record {
+      plain = All-tail IsPlainLine first further p.plain;
+      together = p.together;
+      last_gap = λ boot empty. absurd (false≢true (sym p.some ∙ empty));
+      gap = p.boot;
+      ends = e;
+    }
+
+-- ---- which kind of line stands first
+
+-- the kinds of lines with which a piece of the XS part can begin
+data Kind : Type 0 where
+  Gap : Kind
+  Sets : Kind
+  Word : Kind
+  Block : List ℕ → Kind
+  Text : Kind
+  Other : Kind
+
+abbrev kind_of_class : Class → Kind
+kind_of_class class.Keyword = Word
+kind_of_class (class.MapBegin end) = Block end
+kind_of_class class.First = Text
+kind_of_class class.FirstOfBoot = Text
+kind_of_class _ = Other
+
+abbrev kind_by : Bool → Bool → Class → Kind
+kind_by true m c = Gap
+kind_by false true c = Sets
+kind_by false false c = kind_of_class c
+
+abbrev kind : List ℕ → Kind
+kind text = kind_by (is_empty text) (is_module_line text) (head_class text)
+
+empty_trimmed : (text : List ℕ) → is_empty text ≡ true → trimmed text ≡ []
+empty_trimmed [] e = refl
+empty_trimmed (b ∷ bs) e = by_blank (is_blank b) (λ h. empty_trimmed bs h) e
+  where
+    by_blank : (c : Bool) → (is_empty bs ≡ true → trimmed bs ≡ []) → (if c then is_empty bs else false) ≡ true → (if c then trimmed bs else b ∷ bs) ≡ []
+    by_blank true ih h = ih h
+    by_blank false ih h = absurd (false≢true h)
+
+module_not_empty : (text : List ℕ) → is_module_line text ≡ true → is_empty text ≡ false
+module_not_empty text m = by_empty (is_empty text) refl
+  where
+    by_empty : (b : Bool) → is_empty text ≡ b → b ≡ false
+    by_empty true e =
+        let none : is_module_line text ≡ false = ap (λ (rest : List ℕ). bytes_eq (front is_in_word rest) (codes "MODULE")) (empty_trimmed text e) in
+        absurd (false≢true (sym none ∙ m))
+    by_empty false e = refl
+
+abbrev first_kind : List Line → Option Kind
+first_kind [] = None
+first_kind (l ∷ ls) = Some (kind l.text)
+
+line_kind : (l : Line) (c : Class) → IsHeadLine l.text c → kind l.text ≡ kind_of_class c
+line_kind l c h = rw (h.line.empty_is, h.line.plain.no_module) (ap kind_of_class h.reads)
+
+text_kind : (l : Line) → IsParagraphHead l.text → kind l.text ≡ Text
+text_kind l h = rw (h.line.empty_is, h.line.plain.no_module) (by_reads h.reads)
+  where
+    by_reads : (head_class l.text ≡ class.First) ⊎ (head_class l.text ≡ class.FirstOfBoot) → kind_of_class (head_class l.text) ≡ Text
+    by_reads (inl e) = ap kind_of_class e
+    by_reads (inr e) = ap kind_of_class e
+
+-- the kind of the first line, by the piece that stands first
+abbrev piece_kind : {names : ModuleNames} {ls : List Line} {ps : List Part} → XsPart names ls ps → Option Kind
+piece_kind law.done = None
+piece_kind (law.gap h d) = Some Gap
+piece_kind (law.sets new m n d) = Some Sets
+piece_kind (law.keyword h d) = Some Word
+piece_kind (law.block end inner last h a p d) = Some (Block end)
+piece_kind (law.paragraph further lines h p e d) = Some Text
+
+piece_is : {names : ModuleNames} {ls : List Line} {ps : List Part} (d : XsPart names ls ps) → piece_kind d ≡ first_kind ls
+piece_is law.done = refl
+piece_is (law.gap {line = l} h d) = ap Some (sym (rw h refl))
+piece_is (law.sets new {line = l} m n d) = ap Some (sym (rw (module_not_empty l.text m, m) refl))
+piece_is (law.keyword {line = l} h d) = ap Some (sym (line_kind l class.Keyword h))
+piece_is (law.block end {first = l} inner last h a p d) = ap Some (sym (line_kind l (class.MapBegin end) h))
+piece_is (law.paragraph {first = l} further lines h p e d) = ap Some (sym (text_kind l h))
+
+same_kind : {names : ModuleNames} {ls ms : List Line} {ps qs : List Part} → ls ≡ ms → (d : XsPart names ls ps) (f : XsPart names ms qs) → piece_kind d ≡ piece_kind f
+same_kind e d f = piece_is d ∙ ap first_kind e ∙ sym (piece_is f)
+
+same_names : (a b : ModuleNames) (x y : Line) → x ≡ y → module_names x.text ≡ Some a → module_names y.text ≡ Some b → a ≡ b
+same_names a b x y e m n = let h : (let o : Option ModuleNames = Some a in o) ≡ Some b = sym m ∙ ap (λ (l : Line). module_names l.text) e ∙ n in cc
+
+same_end : (a b : List ℕ) → (let k : Option Kind = Some (Block a) in k) ≡ Some (Block b) → a ≡ b
+same_end a b e = cc
+
+uniq : {names : ModuleNames} {ls : List Line} {ps : List Part} → XsPart names ls ps → (ms : List Line) (qs : List Part) → ls ≡ ms → XsPart names ms qs → ps ≡ qs
+uniq law.done ms qs e law.done = refl
+uniq (law.gap h d) ms qs e (law.gap {lines = ys} {parts = q} k f) = uniq d ys q (same_tail e) f
+uniq (law.sets a {line = x} m n d) ms qs e (law.sets b {line = y} {lines = ys} {parts = q} k o f) =
+    let P : ModuleNames → Type 0 = λ names. XsPart names ys q in uniq d ys q (same_tail e) (subst P (sym (same_names a b x y (same_head e) n o)) f)
+uniq (law.keyword h d) ms qs e (law.keyword {lines = ys} {parts = q} k f) = uniq d ys q (same_tail e) f
+uniq {names = names} (law.block a inner last {lines = xs} {parts = p} h i t d) ms qs e (law.block b other end {lines = ys} {parts = q} k j u f) =
+    let same : a ≡ b = same_end a b (same_kind e (law.block a inner last h i t d) (law.block b other end k j u f)) in
+    let P : List ℕ → Type 0 = λ w. All (λ (l : Line). bytes_eq l.text w ≡ false) other in
+    let Q : List ℕ → Type 0 = λ w. bytes_eq end.text w ≡ true in
+    let s : SameStretch inner other xs ys = same_stretch (λ (l : Line). bytes_eq l.text a) inner other last end xs ys i (subst P (sym same) j) t (subst Q (sym same) u) (same_tail e) in
+    ap (λ (ls : List Line). map_of names ls ∷ p) s.same ∙ ap (λ (parts : List Part). map_of names other ∷ parts) (uniq d ys q s.behind f)
+uniq {names = names} (law.paragraph {first = x} further xs {parts = p} h i t d) ms qs e (law.paragraph {first = y} other ys {parts = q} k j u f) =
+    let P : Line → Type 0 = λ l. Goes l l other ys in
+    let s : SameStretch further other xs ys = same_further further other x x xs ys (same_tail e) (first_goes x further xs i t) (subst P (sym (same_head e)) (first_goes y other ys j u)) in
+    ap (λ (l : Line). paragraph_of names (l ∷ further) ∷ p) (same_head e) ∙ ap (λ (ls : List Line). paragraph_of names (y ∷ ls) ∷ p) s.same
+    ∙ ap (λ (parts : List Part). paragraph_of names (y ∷ other) ∷ parts) (uniq d ys q s.behind f)
+uniq d ms qs e f = let k : piece_kind d ≡ piece_kind f = same_kind e d f in absurd cc
+
+same_rest : (ls : List Line) (s t : Sections) (a : IsSplit ls s) (b : IsSplit ls t) → a.rest ≡ b.rest
+same_rest ls s t a b = same_pod a.without_pod ls b.rest refl b.without_pod
+
+pub only_split : (ls : List Line) (s : Sections) → IsSplit ls s → IsOnlySplit ls s
+only_split ls s a =
+    record {
+      split = a;
+      same_c_part = λ t b. b.c_part ∙ ap before_module (same_rest ls t s b a) ∙ sym a.c_part;
+      same_parts = λ t b.
+          uniq b.xs_part (without_comments (from_module a.rest)) s.parts
+          (ap (λ (rest : List Line). without_comments (from_module rest)) (same_rest ls t s b a)) a.xs_part;
+    }

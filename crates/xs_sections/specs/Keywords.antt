@@ -1,0 +1,95 @@
+-- What a line is that may begin a paragraph: a file keyword, or the first line of the paragraph itself.
+use Rattle.std.specs.Prelude.{ℕ, Bool, true, false, not, ◌&&◌, ◌||◌, ◌==◌, if◌then◌else◌, List, [], ◌∷◌, Option, None, Some, codes, option_and_then}
+use Rattle.std.specs.Str.{bytes_eq}
+use Rattle.xs_sections.specs.Text.{trimmed, front, behind_front, behind, begins_with_byte, is_capital, is_in_word, is_no_blank, is_identifier, is_empty}
+use Rattle.xs_sections.specs.Marks.{begins_with}
+use Rattle.xs_sections.specs.declared.class.Class.{Class}
+use Rattle.xs_sections.specs.declared.class.Class.TheVariants.{Keyword, BadValue, LeftOut, MapBegin, First, FirstOfBoot}
+
+-- the one word of a value; no word where it has none or several
+abbrev pub only_word : List ℕ → List ℕ
+only_word value = if is_empty (behind_front is_no_blank (trimmed value)) then front is_no_blank (trimmed value) else []
+
+-- the value of PROTOTYPES and VERSIONCHECK
+abbrev pub is_switch : List ℕ → Bool
+is_switch word = bytes_eq word (codes "ENABLE") || bytes_eq word (codes "DISABLE")
+
+-- the value of FALLBACK
+abbrev pub is_fallback : List ℕ → Bool
+is_fallback word = bytes_eq word (codes "TRUE") || (bytes_eq word (codes "FALSE") || bytes_eq word (codes "UNDEF"))
+
+-- the value of REQUIRE: a word
+abbrev pub is_some_word : List ℕ → Bool
+is_some_word [] = false
+is_some_word (b ∷ bs) = true
+
+-- behind the end word of a typemap block, and its quote, stands nothing or `;`
+abbrev pub is_closing : List ℕ → Bool
+is_closing [] = true
+is_closing (b ∷ []) = b == 59
+is_closing (b ∷ c ∷ cs) = false
+
+-- an end word is an identifier
+abbrev pub end_word_of : List ℕ → List ℕ → Option (List ℕ)
+end_word_of word closing = if is_identifier word && is_closing closing then Some word else None
+
+-- what stands behind the end word begins with its quote
+abbrev pub quoted_word : ℕ → List ℕ → List ℕ → Option (List ℕ)
+quoted_word quote word [] = None
+quoted_word quote word (b ∷ closing) = if b == quote then end_word_of word closing else None
+
+-- an end word, alone or in single or double quotes
+abbrev pub end_word : List ℕ → Option (List ℕ)
+end_word [] = None
+end_word (b ∷ bs) =
+    if b == 34 || b == 39 then quoted_word b (front is_in_word bs) (behind_front is_in_word bs)
+    else end_word_of (front is_in_word (b ∷ bs)) (behind_front is_in_word (b ∷ bs))
+
+-- the value of TYPEMAP: `<<` and the end word of the block
+abbrev pub block_end : List ℕ → Option (List ℕ)
+block_end word = option_and_then end_word (behind (codes "<<") word)
+
+-- the file keywords that are left out
+abbrev pub is_left_out : List ℕ → Bool
+is_left_out word =
+    bytes_eq word (codes "INCLUDE")
+    || (bytes_eq word (codes "INCLUDE_COMMAND")
+    || (bytes_eq word (codes "INTERFACE")
+    || (bytes_eq word (codes "INTERFACE_MACRO")
+    || (bytes_eq word (codes "SCOPE")
+    || (bytes_eq word (codes "ATTRS")
+    || (bytes_eq word (codes "EXPORT_XSUB_SYMBOLS")
+    || bytes_eq word (codes "SETMAGIC")))))))
+
+abbrev pub value_class : Bool → Class
+value_class is_good = if is_good then Keyword else BadValue
+
+abbrev pub map_class : Option (List ℕ) → Class
+map_class None = BadValue
+map_class (Some word) = MapBegin word
+
+-- a line that is no file keyword
+abbrev pub text_class : List ℕ → Class
+text_class line = if begins_with (codes "BOOT:") line then FirstOfBoot else First
+
+-- a keyword that is left out; `::` makes none
+abbrev pub left_out_class : List ℕ → List ℕ → List ℕ → Class
+left_out_class word value line =
+    if is_left_out word && not (begins_with_byte (λ b. b == 58) value) then LeftOut word else text_class line
+
+-- a line that begins with a word, maybe blanks, and `:`, behind which the value stands
+unfoldable pub word_class : List ℕ → List ℕ → List ℕ → Class
+word_class word value line =
+    if bytes_eq word (codes "PROTOTYPES") || bytes_eq word (codes "VERSIONCHECK") then value_class (is_switch (only_word value))
+    else (if bytes_eq word (codes "REQUIRE") then value_class (is_some_word (only_word value))
+    else (if bytes_eq word (codes "FALLBACK") then value_class (is_fallback (only_word value))
+    else (if bytes_eq word (codes "TYPEMAP") then map_class (block_end (only_word value))
+    else left_out_class word value line)))
+
+-- the same of a line, by its word of capital letters and what stands behind the word
+abbrev pub class_behind_word : List ℕ → List ℕ → List ℕ → Class
+class_behind_word word [] line = text_class line
+class_behind_word word (b ∷ value) line = if b == 58 then word_class word value line else text_class line
+
+abbrev pub head_class : List ℕ → Class
+head_class line = class_behind_word (front is_capital line) (trimmed (behind_front is_capital line)) line

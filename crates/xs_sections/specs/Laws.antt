@@ -1,0 +1,223 @@
+-- What holds of the sections of a file, in the words of the format.
+use Rattle.std.specs.Prelude.{◌≡◌, ℕ, Bool, true, false, if◌then◌else◌, List, [], ◌∷◌, ◌++◌, map, ◌⊎◌, All, Contains, Option, None, Some, Result, Ok, Err, codes}
+use Rattle.std.specs.List.{flat_map}
+use Rattle.std.specs.Str.{bytes_eq}
+use Rattle.xs_base.specs.declared.fault.Fault.{Fault}
+use Rattle.xs_base.specs.declared.fault.Refuse.{Refuse}
+use Rattle.xs_base.specs.declared.fault.Refuse.TheVariants as refuse
+use Rattle.xs_base.specs.declared.place.Line.{Line}
+use Rattle.xs_sections.specs.Text.{is_empty}
+use Rattle.xs_sections.specs.Marks.{begins_with, begins_pod, ends_pod, is_flush_left, is_comment, is_directive, is_module_line}
+use Rattle.xs_sections.specs.ModuleLine.{module_names}
+use Rattle.xs_sections.specs.Keywords.{head_class}
+use Rattle.xs_sections.specs.Classes.{Tag, tags_of}
+use Rattle.xs_sections.specs.Cut.{lines_in, is_c, no_names, paragraph_of, map_of}
+use Rattle.xs_sections.specs.Faults.{is_before, is_module, some_line}
+use Rattle.xs_sections.specs.declared.class.Class.{Class}
+use Rattle.xs_sections.specs.declared.class.Class.TheVariants as class
+use Rattle.xs_sections.specs.declared.class.ModuleNames.{ModuleNames}
+use Rattle.xs_sections.specs.declared.sections.Part.{Part}
+use Rattle.xs_sections.specs.declared.sections.PartBody.{PartBody}
+use Rattle.xs_sections.specs.declared.sections.PartBody.TheVariants.{Para, Map}
+use Rattle.xs_sections.specs.declared.sections.Sections.{Sections}
+
+-- ---- each line has one class
+
+-- a line that is neither POD nor a comment nor a MODULE line
+pub record IsPlain (text : List ℕ) : Type 0 where
+  pub no_pod : begins_pod text ≡ false
+  pub no_comment : is_comment text ≡ false
+  pub no_module : is_module_line text ≡ false
+
+pub record IsComment (text : List ℕ) (directive : Bool) : Type 0 where
+  pub no_pod : begins_pod text ≡ false
+  pub comment : is_comment text ≡ true
+  pub directive_is : is_directive text ≡ directive
+
+pub record IsModule (text : List ℕ) (names : Option ModuleNames) : Type 0 where
+  pub no_pod : begins_pod text ≡ false
+  pub first_word : is_module_line text ≡ true
+  pub names_are : module_names text ≡ names
+
+pub record IsLine (text : List ℕ) (empty : Bool) : Type 0 where
+  pub plain : IsPlain text
+  pub empty_is : is_empty text ≡ empty
+
+-- a line that stands at the head of a paragraph, and reads as this there
+pub record IsHeadLine (text : List ℕ) (class : Class) : Type 0 where
+  pub line : IsLine text false
+  pub reads : head_class text ≡ class
+
+-- what a line of a class is by its own text
+abbrev pub IsOf : List ℕ → Class → Type 0
+IsOf text class.PodBegin = begins_pod text ≡ true
+IsOf text class.PodLine = ends_pod text ≡ false
+IsOf text class.PodEnd = ends_pod text ≡ true
+IsOf text class.C = (begins_pod text ≡ false) × (is_module_line text ≡ false)
+IsOf text class.Comment = IsComment text false
+IsOf text class.Directive = IsComment text true
+IsOf text (class.Module names) = IsModule text (Some names)
+IsOf text class.BadModule = IsModule text None
+IsOf text class.Outside = IsLine text true
+IsOf text class.Keyword = IsHeadLine text class.Keyword
+IsOf text class.BadValue = IsHeadLine text class.BadValue
+IsOf text (class.LeftOut word) = IsHeadLine text (class.LeftOut word)
+IsOf text (class.MapBegin end) = IsHeadLine text (class.MapBegin end)
+IsOf text class.MapLine = (begins_pod text ≡ false) × (is_comment text ≡ false)
+IsOf text class.MapEnd = begins_pod text ≡ false
+IsOf text class.First = IsHeadLine text class.First
+IsOf text class.FirstOfBoot = IsHeadLine text class.FirstOfBoot
+IsOf text class.Further = IsLine text false
+IsOf text class.Blank = IsLine text true
+
+abbrev pub body_lines : PartBody → List Line
+body_lines (Para lines) = lines
+body_lines (Map lines) = lines
+
+-- the classes of the lines that parts hold
+abbrev pub is_in_part : Class → Bool
+is_in_part class.MapLine = true
+is_in_part class.First = true
+is_in_part class.FirstOfBoot = true
+is_in_part class.Further = true
+is_in_part class.Blank = true
+is_in_part _ = false
+
+-- The module and its line are those of the last MODULE line.
+pub record IsLastModule (ts : List Tag) (s : Sections) : Type 0 where
+  pub before : List Tag
+  pub last : Tag
+  pub behind : List Tag
+  pub names : ModuleNames
+  pub stands : ts ≡ before ++ last ∷ behind
+  pub sets : last.class ≡ class.Module names
+  pub module_is : names.module ≡ s.module
+  pub line_is : last.line.number ≡ s.module_line
+  pub no_later : some_line is_module behind ≡ false
+
+-- Each line of the file, in order and with its number, has one class. The C part has the lines of its class, and the parts have the lines
+-- of paragraphs and typemap blocks, each line once and in order. What is left is POD, a comment, a MODULE line, a file keyword, the line
+-- that begins or ends a typemap block, or an empty line outside of all.
+pub record HoldsEachLine (lines : List Line) (s : Sections) : Type 0 where
+  pub each : map (λ (t : Tag). t.line) (tags_of lines) ≡ lines
+  pub read : All (λ (t : Tag). IsOf t.line.text t.class) (tags_of lines)
+  pub c_part : s.c_part ≡ lines_in is_c (tags_of lines)
+  pub parts : flat_map (λ (p : Part). body_lines p.body) s.parts ≡ lines_in is_in_part (tags_of lines)
+  pub last_module : IsLastModule (tags_of lines) s
+
+-- ---- POD
+
+abbrev pub is_no_pod : Class → Bool
+is_no_pod class.PodBegin = false
+is_no_pod class.PodLine = false
+is_no_pod class.PodEnd = false
+is_no_pod _ = true
+
+-- A file without its POD: a stretch of POD begins at its first line and goes through the next line that ends it.
+pub data WithoutPod : List Line → List Line → Type 0 where
+  done : WithoutPod [] []
+  keeps : {line : Line} {lines rest : List Line} → begins_pod line.text ≡ false → WithoutPod lines rest → WithoutPod (line ∷ lines) (line ∷ rest)
+  skips : {first : Line} (inner : List Line) (last : Line) {lines rest : List Line} → begins_pod first.text ≡ true → All (λ (l : Line). ends_pod l.text ≡ false) inner → ends_pod last.text ≡ true
+      → WithoutPod lines rest → WithoutPod (first ∷ inner ++ last ∷ lines) rest
+
+-- the lines before the first MODULE line
+abbrev pub before_module : List Line → List Line
+before_module [] = []
+before_module (line ∷ lines) = if is_module_line line.text then [] else line ∷ before_module lines
+
+-- the lines from the first MODULE line on
+abbrev pub from_module : List Line → List Line
+from_module [] = []
+from_module (line ∷ lines) = if is_module_line line.text then line ∷ lines else from_module lines
+
+abbrev pub without_comments : List Line → List Line
+without_comments [] = []
+without_comments (line ∷ lines) = if is_comment line.text then without_comments lines else line ∷ without_comments lines
+
+-- ---- paragraphs
+
+-- No empty line is followed by a line that begins with a byte that is no blank.
+abbrev pub HoldsTogether : Line → List Line → Type 0
+HoldsTogether line [] = Unit {0}
+HoldsTogether line (next ∷ lines) = (is_empty line.text ≡ true → is_flush_left next.text ≡ false) × HoldsTogether next lines
+
+-- An empty line is the last.
+abbrev pub EndsAtGap : List Line → Type 0
+EndsAtGap [] = Unit {0}
+EndsAtGap (line ∷ lines) = (is_empty line.text ≡ true → lines ≡ []) × EndsAtGap lines
+
+-- A paragraph begins with a line that is not empty, and holds no POD, no comment and no MODULE line.
+pub record IsParagraph (first : Line) (further : List Line) : Type 0 where
+  pub some : is_empty first.text ≡ false
+  pub plain : All (λ (l : Line). IsPlain l.text) (first ∷ further)
+  pub together : HoldsTogether first further
+  pub boot : begins_with (codes "BOOT:") first.text ≡ true → EndsAtGap further
+
+-- A typemap block holds no POD and no comment. It may hold a MODULE line.
+pub record IsMapLine (line : Line) : Type 0 where
+  pub no_pod : begins_pod line.text ≡ false
+  pub no_comment : is_comment line.text ≡ false
+
+abbrev pub IsBody : PartBody → Type 0
+IsBody (Para []) = ⊥
+IsBody (Para (first ∷ further)) = IsParagraph first further
+IsBody (Map lines) = All IsMapLine lines
+
+-- ---- the XS part
+
+-- a line that is no file keyword
+pub record IsParagraphHead (text : List ℕ) : Type 0 where
+  pub line : IsLine text false
+  pub reads : (head_class text ≡ class.First) ⊎ (head_class text ≡ class.FirstOfBoot)
+
+abbrev pub last_line : Line → List Line → Line
+last_line line [] = line
+last_line line (next ∷ lines) = last_line next lines
+
+-- A paragraph ends at the end of the file, before a MODULE line, and where an empty line is followed by a line that begins with a byte that
+-- is no blank; a BOOT paragraph ends behind any empty line.
+abbrev pub EndsBefore : Line → Line → List Line → Type 0
+EndsBefore first last [] = Unit {0}
+EndsBefore first last (next ∷ rest) =
+    (is_module_line next.text ≡ true)
+    ⊎ ((is_empty last.text ≡ true) × ((begins_with (codes "BOOT:") first.text ≡ true) ⊎ (is_flush_left next.text ≡ true)))
+
+-- The lines of the XS part, without POD and comments, and its parts: empty lines, MODULE lines, file keywords, typemap blocks and
+-- paragraphs stand there in a row. A MODULE line sets the names of the parts behind it.
+pub data XsPart : ModuleNames → List Line → List Part → Type 0 where
+  done : {names : ModuleNames} → XsPart names [] []
+  gap : {names : ModuleNames} {line : Line} {lines : List Line} {parts : List Part} → is_empty line.text ≡ true → XsPart names lines parts → XsPart names (line ∷ lines) parts
+  sets : {names : ModuleNames} (new : ModuleNames) {line : Line} {lines : List Line} {parts : List Part} → is_module_line line.text ≡ true → module_names line.text ≡ Some new
+      → XsPart new lines parts → XsPart names (line ∷ lines) parts
+  keyword : {names : ModuleNames} {line : Line} {lines : List Line} {parts : List Part} → IsHeadLine line.text class.Keyword → XsPart names lines parts → XsPart names (line ∷ lines) parts
+  block : {names : ModuleNames} (end : List ℕ) {first : Line} (inner : List Line) (last : Line) {lines : List Line} {parts : List Part} → IsHeadLine first.text (class.MapBegin end)
+      → All (λ (l : Line). bytes_eq l.text end ≡ false) inner → bytes_eq last.text end ≡ true
+      → XsPart names lines parts → XsPart names (first ∷ inner ++ last ∷ lines) (map_of names inner ∷ parts)
+  paragraph : {names : ModuleNames} {first : Line} (further lines : List Line) {parts : List Part} → IsParagraphHead first.text → IsParagraph first further → EndsBefore first (last_line first further) lines
+      → XsPart names lines parts → XsPart names (first ∷ further ++ lines) (paragraph_of names (first ∷ further) ∷ parts)
+
+-- A file, split: POD is taken out, the C part is what stands before the first MODULE line, and in the XS part, which begins with that line,
+-- comments are taken out first.
+pub record IsSplit (lines : List Line) (s : Sections) : Type 0 where
+  pub rest : List Line
+  pub without_pod : WithoutPod lines rest
+  pub c_part : s.c_part ≡ before_module rest
+  pub xs_part : XsPart no_names (without_comments (from_module rest)) s.parts
+
+-- There is no other way to split a file so.
+pub record IsOnlySplit (lines : List Line) (s : Sections) : Type 0 where
+  pub split : IsSplit lines s
+  pub same_c_part : (t : Sections) → IsSplit lines t → t.c_part ≡ s.c_part
+  pub same_parts : (t : Sections) → IsSplit lines t → t.parts ≡ s.parts
+
+-- ---- the first fault
+
+-- A fault of the list before which none of them is told.
+pub record IsFirst (faults : List Fault) (f : Fault) : Type 0 where
+  pub one : Contains faults f
+  pub first : All (λ (g : Fault). is_before g f ≡ false) faults
+
+abbrev pub TellsFirst : {A : Type 0} → List Fault → Result A Refuse → Type 0
+TellsFirst faults (Ok a) = Unit {0}
+TellsFirst faults (Err (refuse.Fault f)) = IsFirst faults f
+TellsFirst faults (Err refuse.Memory) = Unit {0}

@@ -1,0 +1,57 @@
+-- A MODULE line is `MODULE = NAME`, then maybe `PACKAGE = NAME`, then maybe `PREFIX = WORD`. Blanks are free around the words and `=`, and
+-- at the end; a name or word ends before a blank.
+use Rattle.std.specs.Prelude.{ℕ, Bool, if◌then◌else◌, List, [], Option, None, Some, codes, option_and_then}
+use denote.Ref.{Bor}
+use Rattle.xs_sections.specs.Text.{trimmed, front, behind_front, behind, is_no_blank, is_name, is_identifier, is_empty}
+use Rattle.xs_sections.specs.declared.class.ModuleNames.{ModuleNames}
+use Rattle.xs_sections.specs.declared.class.Class.{Class}
+use Rattle.xs_sections.specs.declared.class.Class.TheVariants.{Module, BadModule}
+
+-- a value and what stands behind it
+abbrev pub Valued : Type 0
+Valued = List ℕ × List ℕ
+
+abbrev pub shown : Bor (List ℕ) × Bor (List ℕ) → Valued
+shown (value, more) = (value.now, more.now)
+
+-- the bytes up to the first blank, and what stands behind them
+abbrev pub valued : List ℕ → Valued
+valued text = (front is_no_blank text, behind_front is_no_blank text)
+
+infixl 10 ◌>>=◌
+abbrev pub ◌>>=◌ : {A B : Type 0} → Option A → (A → Option B) → Option B
+found >>= next = option_and_then next found
+
+-- `WORD = VALUE` at the front
+abbrev pub assignment : List ℕ → List ℕ → Option Valued
+assignment word text = do
+  more ← behind word (trimmed text)
+  value ← behind (codes "=") (trimmed more)
+  Some (valued (trimmed value))
+
+abbrev pub good_value : (List ℕ → Bool) → Valued → Option Valued
+good_value is_good found = if is_good found.0 then Some found else None
+
+-- the value has to stand there, and to be good
+abbrev pub required : (List ℕ → Bool) → Option Valued → Option Valued
+required is_good found = found >>= good_value is_good
+
+-- Where the word does not stand there, the value is empty; where it does, the value has to be good.
+abbrev pub optional : (List ℕ → Bool) → Option Valued → List ℕ → Option Valued
+optional is_good None text = Some ([], text)
+optional is_good (Some found) text = good_value is_good found
+
+-- the names that a MODULE line sets, where it has that form
+unfoldable pub module_names : List ℕ → Option ModuleNames
+module_names line = do
+  named ← required is_name (assignment (codes "MODULE") line)
+  packaged ← optional is_name (assignment (codes "PACKAGE") named.1) named.1
+  prefixed ← optional is_identifier (assignment (codes "PREFIX") packaged.1) packaged.1
+  if is_empty prefixed.1 then Some (record { «module» = named.0; «package» = packaged.0; prefix = prefixed.0 }) else None
+
+abbrev pub class_by_names : Option ModuleNames → Class
+class_by_names None = BadModule
+class_by_names (Some names) = Module names
+
+abbrev pub module_class : List ℕ → Class
+module_class line = class_by_names (module_names line)

@@ -1,0 +1,243 @@
+//! Cases that were worked out by hand and by another program, and the limit of paragraphs.
+use crate::{Part, PartBody, Sections, split};
+use std::alloc::Global;
+use std::test::Fail;
+use xs_base::{Bytes, Items, Line, Memory, Refuse};
+
+fn add_number(alloc: Global, out: &mut Bytes, n: u32) -> Result<(), Memory> {
+    let text = format!(in alloc; "{n}")?;
+    out.append(text.as_str().as_bytes())
+}
+
+fn add_lines(alloc: Global, out: &mut Bytes, lines: &Items<Line>) -> Result<(), Memory> {
+    for line in lines.as_slice() {
+        out.append(b"  ")?;
+        add_number(alloc, out, line.number)?;
+        out.append(b" ")?;
+        out.append(line.text.as_slice())?;
+        out.append(b"\n")?;
+    }
+    Ok(())
+}
+
+fn add_names(out: &mut Bytes, part: &Part) -> Result<(), Memory> {
+    out.append(part.module.as_slice())?;
+    out.append(b" ")?;
+    out.append(part.package.as_slice())?;
+    out.append(b" ")?;
+    out.append(part.prefix.as_slice())?;
+    out.append(b"\n")
+}
+
+fn add_part(alloc: Global, out: &mut Bytes, part: &Part) -> Result<(), Memory> {
+    match &part.body {
+        PartBody::Para(lines) => {
+            out.append(b"P ")?;
+            add_names(out, part)?;
+            add_lines(alloc, out, lines)
+        }
+        PartBody::Map(lines) => {
+            out.append(b"M ")?;
+            add_names(out, part)?;
+            add_lines(alloc, out, lines)
+        }
+    }
+}
+
+fn add_sections(alloc: Global, out: &mut Bytes, s: &Sections) -> Result<(), Memory> {
+    out.append(b"S ")?;
+    out.append(s.module.as_slice())?;
+    out.append(b" ")?;
+    add_number(alloc, out, s.module_line)?;
+    out.append(b"\nC\n")?;
+    add_lines(alloc, out, &s.c_part)?;
+    for part in s.parts.as_slice() {
+        add_part(alloc, out, part)?;
+    }
+    Ok(())
+}
+
+// How a file is split, as text: the C part, then the parts with the numbers and texts of their lines; or the fault.
+fn shown(alloc: Global, src: &Bytes, limit: usize) -> Result<Bytes, Memory> {
+    let mut out = Bytes::new(alloc);
+    if src.len() > limit || limit > 1_000_000 {
+        return Ok(out);
+    }
+    match split(alloc, src) {
+        Ok(s) => add_sections(alloc, &mut out, &s)?,
+        Err(Refuse::Memory) => return Err(Memory),
+        Err(Refuse::Fault(f)) => {
+            out.append(b"F ")?;
+            add_number(alloc, &mut out, f.line)?;
+            out.append(b" ")?;
+            add_number(alloc, &mut out, f.code as u32)?;
+            out.append(b" ")?;
+            out.append(f.word.as_slice())?;
+            out.append(b"\n")?;
+        }
+    }
+    Ok(out)
+}
+
+#[test]
+fn table(rt: HostRuntime) -> Result<(), Fail> {
+    let alloc = rt.alloc();
+    let cases: [(&[u8], &[u8]); 55] = [
+        (b"", b"F 1 102 \n"),
+        (b"MODULE = M PACKAGE = M", b"S M 1\nC\n"),
+        (b"=cut\nMODULE = M", b"F 1 102 \n"),
+        (b"=cut\n=cut\nMODULE = M", b"S M 3\nC\n"),
+        (
+            b"=pod\n\n=cut\nint c;\nMODULE = M\n=head1 x\nf()\n=cut\nint\ng()",
+            b"S M 5\nC\n  4 int c;\nP M  \n  9 int\n  10 g()\n",
+        ),
+        (
+            b"MODULE = M\nint\n=pod\n\nvoid\n=cut\nf()",
+            b"S M 1\nC\nP M  \n  2 int\n  7 f()\n",
+        ),
+        (b"MODULE = M\nint\n=pod\n", b"F 3 105 \n"),
+        (
+            b"= pod\n =pod\n=1\nMODULE = M",
+            b"S M 4\nC\n  1 = pod\n  2  =pod\n  3 =1\n",
+        ),
+        (b"=pod\nMODULE = N\n=cutting\nMODULE = M", b"S M 4\nC\n"),
+        (
+            b"MODULE = M\nTYPEMAP: <<E\n=pod\nE\n=cut\nx T_IV\nE",
+            b"S M 1\nC\nM M  \n  6 x T_IV\n",
+        ),
+        (
+            b"MODULE = M\n=pod\n#define x\nSCOPE: x\n=cut",
+            b"S M 1\nC\n",
+        ),
+        (
+            b"=pod\r\n=cut\r\nMODULE = M\r\nint\r\nf()\r\n",
+            b"S M 3\nC\nP M  \n  4 int\n  5 f()\n",
+        ),
+        (b"MODULE = M\r", b"F 1 103 \n"),
+        (
+            b"MODULE\t=\tM\tPACKAGE\t=\tA::B\tPREFIX\t=\tp_\t\nf()",
+            b"S M 1\nC\nP M A::B p_\n  2 f()\n",
+        ),
+        (b"  MODULE=M", b"S M 1\nC\n"),
+        (b"MODULE = M PREFIX = p PACKAGE = q", b"F 1 103 \n"),
+        (b"MODULE = M::", b"F 1 103 \n"),
+        (b"int x;\nMODULE", b"F 2 103 \n"),
+        (b"MODULEX = M", b"F 1 102 \n"),
+        (
+            b"int x;\nMODULE = M PACKAGE = A PREFIX = p\nint\nf()\nMODULE = N\nint\ng()",
+            b"S N 5\nC\n  1 int x;\nP M A p\n  3 int\n  4 f()\nP N  \n  6 int\n  7 g()\n",
+        ),
+        (
+            b"MODULE = M\nint\nf()\n  CODE:\n    MODULE = 3;",
+            b"F 5 103 \n",
+        ),
+        (
+            b"#define A\n# c\nMODULE = M",
+            b"S M 3\nC\n  1 #define A\n  2 # c\n",
+        ),
+        (
+            b"MODULE = M\n# hi\n  #if 0\nint\n# c\nf()",
+            b"S M 1\nC\nP M  \n  4 int\n  6 f()\n",
+        ),
+        (b"MODULE = M\nint\n#if 0", b"F 3 104 \n"),
+        (b"MODULE = M\n#\tdefine", b"F 2 104 \n"),
+        (
+            b"MODULE = M\n#iffy\n#line x\n#include x\n#defined",
+            b"S M 1\nC\n",
+        ),
+        (b"MODULE = M\n# line\t 3", b"F 2 104 \n"),
+        (b"MODULE = M\n#include\t\"a\"", b"F 2 104 \n"),
+        (b"MODULE = M\n #include <a>", b"S M 1\nC\n"),
+        (
+            b"MODULE = M\nint\n\n# c\nf()",
+            b"S M 1\nC\nP M  \n  2 int\n  3 \nP M  \n  5 f()\n",
+        ),
+        (
+            b"MODULE = M\n\n\nint\nf()\n\n  CODE:\n\n    x;\n\n\nvoid\ng()\n",
+            b"S M 1\nC\nP M  \n  4 int\n  5 f()\n  6 \n  7   CODE:\n  8 \n  9     x;\n  10 \n  11 \nP M  \n  12 void\n  13 g()\n",
+        ),
+        (
+            b"MODULE = M\n  int\nf()",
+            b"S M 1\nC\nP M  \n  2   int\n  3 f()\n",
+        ),
+        (
+            b"MODULE = M\nint\n \t\nf()",
+            b"S M 1\nC\nP M  \n  2 int\n  3  \t\nP M  \n  4 f()\n",
+        ),
+        (
+            b"MODULE = M\nBOOT: int a;\n  a = 1;\n\n  b = 2;\n\nBOOT:\nx",
+            b"S M 1\nC\nP M  \n  2 BOOT: int a;\n  3   a = 1;\n  4 \nP M  \n  5   b = 2;\n  6 \nP M  \n  7 BOOT:\n  8 x\n",
+        ),
+        (
+            b"MODULE = M\nPROTOTYPES: ENABLE\nBOOT:\n x",
+            b"S M 1\nC\nP M  \n  3 BOOT:\n  4  x\n",
+        ),
+        (b"MODULE = M\nBOOT : x", b"S M 1\nC\nP M  \n  2 BOOT : x\n"),
+        (
+            b"typedef int foo_t;\nMODULE = M\nREQUIRE: 1.9\nPROTOTYPES : ENABLE \n\nTYPEMAP: <<\"E\";\nfoo_t T_IV\nE\nvoid\nf(foo_t a)",
+            b"S M 2\nC\n  1 typedef int foo_t;\nM M  \n  7 foo_t T_IV\nP M  \n  9 void\n  10 f(foo_t a)\n",
+        ),
+        (b"MODULE = M\nPROTOTYPES: ON", b"F 2 109 \n"),
+        (b"MODULE = M\nREQUIRE: 1 2", b"F 2 109 \n"),
+        (b"MODULE = M\nREQUIRE:", b"F 2 109 \n"),
+        (
+            b"MODULE = M\nFALLBACK: UNDEF\nVERSIONCHECK:DISABLE",
+            b"S M 1\nC\n",
+        ),
+        (
+            b"MODULE = M\nvoid\nf()\nPROTOTYPES: ENABLE",
+            b"S M 1\nC\nP M  \n  2 void\n  3 f()\n  4 PROTOTYPES: ENABLE\n",
+        ),
+        (b"MODULE = M\nSCOPE: ENABLE\nvoid\nf()", b"F 2 108 SCOPE\n"),
+        (
+            b"MODULE = M\nSETMAGIC::x\nf()",
+            b"S M 1\nC\nP M  \n  2 SETMAGIC::x\n  3 f()\n",
+        ),
+        (
+            b"MODULE = M\n SCOPE: x",
+            b"S M 1\nC\nP M  \n  2  SCOPE: x\n",
+        ),
+        (b"MODULE = M\nTYPEMAP: << E\nE", b"F 2 109 \n"),
+        (b"MODULE = M\nTYPEMAP: <<E\nfoo_t T_IV", b"F 2 106 \n"),
+        (
+            b"MODULE = M\nTYPEMAP: <<'E'\n# c\nMODULE = N\n\nE \nE",
+            b"S M 1\nC\nM M  \n  4 MODULE = N\n  5 \n  6 E \n",
+        ),
+        (b"MODULE = M\nTYPEMAP: <<E;;\nE", b"F 2 109 \n"),
+        (b"MODULE = M\nTYPEMAP: <<\"E'\nE", b"F 2 109 \n"),
+        (b"MODULE = M\nTYPEMAP: <<E\n#define x\nE", b"F 3 104 \n"),
+        (b"MODULE = M\nTYPEMAP: <<E\n#define x", b"F 2 106 \n"),
+        (b"MODULE = M\nPROTOTYPES: x\n#if", b"F 2 109 \n"),
+        (b"MODULE = M\nint\n#if\n=pod", b"F 3 104 \n"),
+        (b"MODULE x\nMODULE = M\n#if", b"F 1 103 \n"),
+    ];
+    for (file, wanted) in cases {
+        let src = Bytes::from_slice(alloc, file)?;
+        let found = shown(alloc, &src, 1000)?;
+        assert!(rt; found.as_slice() == wanted);
+    }
+    Ok(())
+}
+
+// A file with so many paragraphs of one line.
+fn paragraphs(alloc: Global, n: u32) -> Result<Bytes, Memory> {
+    let mut src = Bytes::from_slice(alloc, b"MODULE = M\n")?;
+    for _ in 0..n {
+        src.append(b"int\n\n")?;
+    }
+    Ok(src)
+}
+
+#[test]
+fn limit(rt: HostRuntime) -> Result<(), Fail> {
+    let alloc = rt.alloc();
+    let all = paragraphs(alloc, 4096)?;
+    assert!(rt;
+        shown(alloc, &all, 100_000)?
+            .as_slice()
+            .starts_with(b"S M 1")
+    );
+    let more = paragraphs(alloc, 4097)?;
+    assert!(rt; shown(alloc, &more, 100_000)?.as_slice() == b"F 8194 107 \n".as_slice());
+    Ok(())
+}

@@ -1,0 +1,93 @@
+-- What was written of an answer, told of the answer by the desk's files or by some reads.
+use Rattle.std.proofs.Common.{◌≡◌, ◌≢◌, ℕ, List, [], take, Option, None, Some, ◌⊎◌, inl, inr, refl, sym, ap, subst, ◌∙◌, append-nil, arith, zero, suc}
+use Rattle.xs_base.specs.Causes.{Rose}
+use Rattle.xs_base.specs.Desks.{Files}
+use Rattle.xs_base.specs.Sinks.{appended, AppendsPrefix}
+use Rattle.xsubpp.specs.declared.status.Status.{Status}
+use Rattle.xsubpp.specs.declared.status.Status.TheVariants.{Done, Refused, Usage, Missing, ReadFault, WriteFault, Memory}
+use Rattle.xsubpp.specs.declared.answer.Answer.{Answer}
+use Rattle.xsubpp.specs.Answers.{answer, answer_to, Ends}
+use Rattle.xsubpp.specs.Reads.{IsAnswerOf}
+use Rattle.xsubpp.specs.Words.{Command, command_of}
+
+same_answer : (words : List (List ℕ)) (files : Files) (command : Command) (told : Option Files) (before now : ℕ) (a : Answer)
+    → IsAnswerOf told command before now a → command_of words ≡ Some command → told ≡ Some files → a.status ≢ ReadFault → a ≡ answer words files
+unfolding answer
+same_answer words files command told before now a h said tells read =
+    h.told_is files tells read ∙ ap (λ c. answer_to c files) (sym said)
+
+its_status : (a : Answer) (result : Status) → (result ≡ a.status) ⊎ (result ≡ WriteFault) → result ≢ WriteFault → result ≡ a.status
+its_status a result (inl e) not_write = e
+its_status a result (inr e) not_write = absurd (not_write e)
+
+pub ends : (words : List (List ℕ)) (files : Files) (command : Command) (told : Option Files) (before now : ℕ) (a : Answer) (s result : Status) (out out' err err' : Option (List ℕ))
+    → IsAnswerOf told command before now a → command_of words ≡ Some command → told ≡ Some files
+    → (result ≡ a.status) ⊎ (result ≡ WriteFault) → (result ≢ WriteFault → out' ≡ appended out a.out) → (result ≢ WriteFault → err' ≡ appended err a.err)
+    → s ≢ WriteFault → s ≢ ReadFault → result ≡ s → Ends (answer words files) s out out' err err'
+ends words files command told before now a s result out out' err err' h said tells was out_is err_is no_write no_read is =
+    let not_write : result ≢ WriteFault = λ e. no_write (sym is ∙ e) in
+    let status : a.status ≡ s = sym (its_status a result was not_write) ∙ is in
+    let same = same_answer words files command told before now a h said tells (λ e. no_read (sym status ∙ e)) in
+    let P : Answer → Type 0 = λ b. Ends b s out out' err err' in
+    subst P same (record { status_is = status; out_is = out_is not_write; err_is = err_is not_write })
+
+pub appended-nil : (told : Option (List ℕ)) → appended told [] ≡ told
+appended-nil None = refl
+appended-nil (Some bytes) = ap Some (append-nil bytes)
+
+pub untouched : (told : Option Files) (command : Command) (before now : ℕ) (a : Answer) (result : Status) (out out' : Option (List ℕ))
+    → IsAnswerOf told command before now a → (result ≡ a.status) ⊎ (result ≡ WriteFault) → (result ≢ WriteFault → out' ≡ appended out a.out)
+    → result ≢ Done → result ≢ WriteFault → out' ≡ out
+untouched told command before now a result out out' h was out_is no_done no_write =
+    let is = its_status a result was no_write in
+    out_is no_write ∙ ap (appended out) (h.only_done (λ e. no_done (is ∙ e))) ∙ appended-nil out
+
+read_fault_or_not : (s : Status) → (s ≡ ReadFault) ⊎ (s ≢ ReadFault)
+read_fault_or_not Done = inr (λ e. cc)
+read_fault_or_not Refused = inr (λ e. cc)
+read_fault_or_not Usage = inr (λ e. cc)
+read_fault_or_not Missing = inr (λ e. cc)
+read_fault_or_not ReadFault = inl refl
+read_fault_or_not WriteFault = inr (λ e. cc)
+read_fault_or_not Memory = inr (λ e. cc)
+
+differ : ReadFault ≡ Done → ⊥
+differ e = cc
+
+abbrev nothing : List ℕ
+nothing = []
+
+take_nothing : (n : ℕ) → take n nothing ≡ nothing
+take_nothing zero = refl
+take_nothing (suc n) = refl
+
+of_nothing : (out out' : Option (List ℕ)) (bytes : List ℕ) → AppendsPrefix out out' [] → AppendsPrefix out out' bytes
+of_nothing out out' bytes p = (0, omega arith, p.2 ∙ ap (appended out) (take_nothing p.0))
+
+pub prefix : (words : List (List ℕ)) (files : Files) (command : Command) (told : Option Files) (before now : ℕ) (a : Answer) (out out' : Option (List ℕ))
+    → IsAnswerOf told command before now a → command_of words ≡ Some command → told ≡ Some files
+    → AppendsPrefix out out' a.out → AppendsPrefix out out' (answer words files).out
+prefix words files command told before now a out out' h said tells p =
+    elim (read_fault_or_not a.status) [
+      | inl e ↦ of_nothing out out' _ (subst (AppendsPrefix out out') (h.only_done (λ d. absurd (differ (sym e ∙ d)))) p)
+      | inr other ↦ subst (λ (b : Answer). AppendsPrefix out out' b.out) (same_answer words files command told before now a h said tells other) p
+    ]
+
+pub complete : (words : List (List ℕ)) (files : Files) (command : Command) (told : Option Files) (before now : ℕ) (a : Answer) (result : Status)
+    → IsAnswerOf told command before now a → command_of words ≡ Some command → told ≡ Some files
+    → (result ≡ a.status) ⊎ (result ≡ WriteFault) → ¬ (Rose before now) → result ≢ WriteFault → result ≡ (answer words files).status
+complete words files command told before now a result h said tells was no_rise no_write =
+    its_status a result was no_write ∙ ap (λ (b : Answer). b.status) (same_answer words files command told before now a h said tells (λ e. no_rise (h.read_fault e)))
+
+-- words that are no command
+pub no_command : (words : List (List ℕ)) (files : Files) (result : Status) → command_of words ≡ None → result ≡ Usage → result ≡ (answer words files).status
+unfolding answer
+no_command words files result none is = is ∙ ap (λ c. (answer_to c files).status) (sym none)
+
+-- the same, by some reads
+pub ends_by : (a b : Answer) (s result : Status) (out out' err err' : Option (List ℕ)) → a ≡ b → (result ≡ a.status) ⊎ (result ≡ WriteFault)
+    → (result ≢ WriteFault → out' ≡ appended out a.out) → (result ≢ WriteFault → err' ≡ appended err a.err) → s ≢ WriteFault → result ≡ s → Ends b s out out' err err'
+ends_by a b s result out out' err err' same was out_is err_is no_write is =
+    let not_write : result ≢ WriteFault = λ e. no_write (sym is ∙ e) in
+    let P : Answer → Type 0 = λ x. Ends x s out out' err err' in
+    subst P same (record { status_is = sym (its_status a result was not_write) ∙ is; out_is = out_is not_write; err_is = err_is not_write })

@@ -1,0 +1,88 @@
+use Rattle.std.proofs.Common.{inl, inr, ap, subst, ◌∙◌}
+use Rattle.xs_base.specs.Sinks.{appended, AppendsPrefix}
+use Rattle.xsubpp.specs.declared.status.Status.TheVariants.{Done, Refused, Missing}
+use Rattle.xsubpp.proofs.Ending.{complete, ends, ends_by, no_command, prefix, untouched}
+use Rattle.xsubpp.proofs.top.xsubpp.Goals as goal
+
+pub returns-in-Ok-clause-done : goal.returns-in-Ok-clause-done
+returns-in-Ok-clause-done g c is files tells =
+    ends _ files _ _ _ _ c.in-Ok.a Done _ _ _ _ _ c.in-Ok.ensures.told c.in-Some.ensures tells c.finish-in-Ok.ensures.status
+    (λ e. c.finish-in-Ok.ensures.out e ∙ ap (appended _) c.as_slice.ensures)
+    (λ e. c.finish-in-Ok.ensures.err e ∙ ap (appended _) c.as_slice-in-Ok.ensures) (λ e. cc) (λ e. cc) is
+
+pub returns-in-Ok-clause-refused : goal.returns-in-Ok-clause-refused
+returns-in-Ok-clause-refused g c is files tells =
+    ends _ files _ _ _ _ c.in-Ok.a Refused _ _ _ _ _ c.in-Ok.ensures.told c.in-Some.ensures tells c.finish-in-Ok.ensures.status
+    (λ e. c.finish-in-Ok.ensures.out e ∙ ap (appended _) c.as_slice.ensures)
+    (λ e. c.finish-in-Ok.ensures.err e ∙ ap (appended _) c.as_slice-in-Ok.ensures) (λ e. cc) (λ e. cc) is
+
+pub returns-in-Ok-clause-missing : goal.returns-in-Ok-clause-missing
+returns-in-Ok-clause-missing g c is files tells =
+    ends _ files _ _ _ _ c.in-Ok.a Missing _ _ _ _ _ c.in-Ok.ensures.told c.in-Some.ensures tells c.finish-in-Ok.ensures.status
+    (λ e. c.finish-in-Ok.ensures.out e ∙ ap (appended _) c.as_slice.ensures)
+    (λ e. c.finish-in-Ok.ensures.err e ∙ ap (appended _) c.as_slice-in-Ok.ensures) (λ e. cc) (λ e. cc) is
+
+pub returns-in-Ok-clause-untouched : goal.returns-in-Ok-clause-untouched
+returns-in-Ok-clause-untouched g c no_done no_write =
+    untouched _ _ _ _ c.in-Ok.a _ _ _ c.in-Ok.ensures.told c.finish-in-Ok.ensures.status
+    (λ e. c.finish-in-Ok.ensures.out e ∙ ap (appended _) c.as_slice.ensures) no_done no_write
+
+pub returns-in-Ok-clause-prefix : goal.returns-in-Ok-clause-prefix
+returns-in-Ok-clause-prefix g c is files tells =
+    prefix _ files _ _ _ _ c.in-Ok.a _ _ c.in-Ok.ensures.told c.in-Some.ensures tells
+    (subst (AppendsPrefix _ _) c.as_slice.ensures c.finish-in-Ok.ensures.prefix)
+
+pub returns-in-Ok-clause-complete : goal.returns-in-Ok-clause-complete
+returns-in-Ok-clause-complete g c files tells desk_fine out_fine err_fine =
+    inl (complete _ files _ _ _ _ c.in-Ok.a _ c.in-Ok.ensures.told c.in-Some.ensures tells c.finish-in-Ok.ensures.status desk_fine
+    (λ e. elim (c.finish-in-Ok.ensures.cause e) [ inl rose ↦ out_fine rose | inr rose ↦ err_fine rose ]))
+
+pub returns-in_default-clause-complete : goal.returns-in_default-clause-complete
+returns-in_default-clause-complete g c files tells desk_fine out_fine err_fine =
+    inl (no_command _ files _ c.in_default.ensures
+    (elim c.finish.ensures.status [
+      | inl is ↦ is
+      | inr e ↦ absurd (elim (c.finish.ensures.cause e) [ inl rose ↦ out_fine rose | inr rose ↦ err_fine rose ])
+    ]))
+
+pub returns-in-Ok-clause-done_by_reads : goal.returns-in-Ok-clause-done_by_reads
+returns-in-Ok-clause-done_by_reads g c is =
+    let r = c.in-Ok.ensures.reads in
+    record {
+      xs = c.in-Some.files.xs.now;
+      script = c.in-Some.files.script.now;
+      first = r.0;
+      second = r.1.0;
+      said = c.in-Some.ensures;
+      ends = ends_by c.in-Ok.a _ Done _ _ _ _ _ r.1.1 c.finish-in-Ok.ensures.status
+          (λ e. c.finish-in-Ok.ensures.out e ∙ ap (appended _) c.as_slice.ensures)
+          (λ e. c.finish-in-Ok.ensures.err e ∙ ap (appended _) c.as_slice-in-Ok.ensures) (λ e. cc) is;
+    }
+
+pub returns-in-Ok-clause-refused_by_reads : goal.returns-in-Ok-clause-refused_by_reads
+returns-in-Ok-clause-refused_by_reads g c is =
+    let r = c.in-Ok.ensures.reads in
+    record {
+      xs = c.in-Some.files.xs.now;
+      script = c.in-Some.files.script.now;
+      first = r.0;
+      second = r.1.0;
+      said = c.in-Some.ensures;
+      ends = ends_by c.in-Ok.a _ Refused _ _ _ _ _ r.1.1 c.finish-in-Ok.ensures.status
+          (λ e. c.finish-in-Ok.ensures.out e ∙ ap (appended _) c.as_slice.ensures)
+          (λ e. c.finish-in-Ok.ensures.err e ∙ ap (appended _) c.as_slice-in-Ok.ensures) (λ e. cc) is;
+    }
+
+pub returns-in-Ok-clause-missing_by_reads : goal.returns-in-Ok-clause-missing_by_reads
+returns-in-Ok-clause-missing_by_reads g c is =
+    let r = c.in-Ok.ensures.reads in
+    record {
+      xs = c.in-Some.files.xs.now;
+      script = c.in-Some.files.script.now;
+      first = r.0;
+      second = r.1.0;
+      said = c.in-Some.ensures;
+      ends = ends_by c.in-Ok.a _ Missing _ _ _ _ _ r.1.1 c.finish-in-Ok.ensures.status
+          (λ e. c.finish-in-Ok.ensures.out e ∙ ap (appended _) c.as_slice.ensures)
+          (λ e. c.finish-in-Ok.ensures.err e ∙ ap (appended _) c.as_slice-in-Ok.ensures) (λ e. cc) is;
+    }

@@ -1,0 +1,26 @@
+-- What the answer to a command owes to what a desk tells.
+use Rattle.std.specs.Option.{ForSome}
+use Rattle.std.specs.Prelude.{◌≡◌, ◌≢◌, ℕ, List, [], Option, Some, Result, Ok, Err}
+use Rattle.xs_base.specs.Causes.{Rose}
+use Rattle.xs_base.specs.declared.fault.Refuse.{Refuse}
+use Rattle.xs_base.specs.declared.fault.Refuse.TheVariants as refuse
+use Rattle.xs_base.specs.Desks.{Files}
+use Rattle.xsubpp.specs.Answers.{answer_to, done_or_refused}
+use Rattle.xsubpp.specs.declared.answer.Answer.{Answer}
+use Rattle.xsubpp.specs.declared.status.Status.TheVariants.{Done, ReadFault, WriteFault, Memory, Usage}
+use Rattle.xsubpp.specs.Words.{Command}
+
+-- It is the answer by what the desk tells, or a read failed.
+pub record IsAnswerOf (told : Option Files) (command : Command) (before now : ℕ) (a : Answer) : Type 0 where
+  pub told_is : ForSome told (λ files. a.status ≢ ReadFault → a ≡ answer_to (Some command) files)
+  pub read_fault : a.status ≡ ReadFault → Rose before now
+  pub only_done : a.status ≢ Done → a.out ≡ []
+  pub not_write_fault : a.status ≢ WriteFault
+  pub not_memory : a.status ≢ Memory
+  pub not_usage : a.status ≢ Usage
+
+-- It is the answer by what the job gave, where that is not want of memory.
+abbrev pub Finishes : List ℕ → List ℕ → Result (List ℕ) Refuse → Answer → Type 0
+Finishes xs script (Ok text) a = a ≡ done_or_refused xs script (Ok text)
+Finishes xs script (Err (refuse.Fault fault)) a = a ≡ done_or_refused xs script (Err fault)
+Finishes xs script (Err refuse.Memory) a = ⊥

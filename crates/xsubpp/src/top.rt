@@ -1,0 +1,109 @@
+//! The top call.
+ghost use Rattle.std.specs.Option.{ForSome};
+ghost use Rattle.std.specs.Prelude.{◌≡◌, ◌≢◌, ◌⊎◌, None};
+ghost use Rattle.xs_base.specs.Causes.{Rose};
+ghost use Rattle.xs_base.specs.Sinks.{AppendsPrefix, appended};
+ghost use Rattle.xs_call.specs.Job.{EachTextLeavesNothing, EachTextRunsAsDeclared};
+ghost use Rattle.xsubpp.specs.Answers.{Ends, EndsByReads, answer, usage};
+ghost use Rattle.xsubpp.specs.Words.{command_of};
+
+use crate::reading::answer_call;
+use crate::status::Status;
+use crate::words::read_words;
+use std::alloc::Global;
+use xs_base::{Bytes, Desk, Memory, Sink, put_all};
+
+/// What is told of the words where they are no command.
+pub const USAGE: &[u8] =
+    b"usage: xsubpp compile FILE [TYPEMAP]\n       xsubpp call FILE SCRIPT [TYPEMAP]\n       xsubpp run TEXT SCRIPT\n       xsubpp check FILE [TYPEMAP]\n       xsubpp example N\n";
+
+/// No file has more bytes.
+pub const FILE_LIMIT: u32 = 1_048_576;
+
+/// Does what the words say: reads the files, does the job, and writes the text on `out`, or what is wrong on `err`.
+///
+/// The words decide first, then the files in the order of the words, then the first fault of the XS file, then that of the
+/// script, and last the writing. Want of memory has no cause that a contract tells.
+#[tactic(auto, using(xs_call::proofs::Join::text_runs, xs_call::proofs::Join::text_leaves_nothing))]
+pub fn xsubpp<D: Desk, O: Sink, E: Sink>(
+    alloc: Global,
+    words: &[Bytes],
+    desk: &mut D,
+    out: &mut O,
+    err: &mut E,
+) -> Status
+    // Over a desk that tells what it holds, these three come with what the definition of the answer says.
+    ensures done { result ≡ Status.Done → ForSome (D.files desk.old) (λ files.
+        Ends (answer words.now files) Status.Done (O.told out.old) (O.told out.new) (E.told err.old) (E.told err.new)) }
+    ensures refused { result ≡ Status.Refused → ForSome (D.files desk.old) (λ files.
+        Ends (answer words.now files) Status.Refused (O.told out.old) (O.told out.new) (E.told err.old) (E.told err.new)) }
+    ensures missing { result ≡ Status.Missing → ForSome (D.files desk.old) (λ files.
+        Ends (answer words.now files) Status.Missing (O.told out.old) (O.told out.new) (E.told err.old) (E.told err.new)) }
+
+    // Over any desk, what is written is the answer by what some reads gave.
+    ensures done_by_reads { result ≡ Status.Done →
+        EndsByReads words.now Status.Done (O.told out.old) (O.told out.new) (E.told err.old) (E.told err.new) }
+    ensures refused_by_reads { result ≡ Status.Refused →
+        EndsByReads words.now Status.Refused (O.told out.old) (O.told out.new) (E.told err.old) (E.told err.new) }
+    ensures missing_by_reads { result ≡ Status.Missing →
+        EndsByReads words.now Status.Missing (O.told out.old) (O.told out.new) (E.told err.old) (E.told err.new) }
+
+    // The words alone decide on this one.
+    ensures usage { result ≡ Status.Usage → (command_of words.now ≡ None)
+        × Ends usage Status.Usage (O.told out.old) (O.told out.new) (E.told err.old) (E.told err.new) }
+    ensures usage_exact { command_of words.now ≡ None → (result ≡ Status.Usage) ⊎ (result ≡ Status.WriteFault) }
+
+    // A fault of an edge comes only where its count rose.
+    ensures read_fault { result ≡ Status.ReadFault → Rose (D.fault_count desk.old) (D.fault_count desk.new) }
+    ensures write_fault { result ≡ Status.WriteFault →
+        Rose (O.fault_count out.old) (O.fault_count out.new) ⊎ Rose (E.fault_count err.old) (E.fault_count err.new) }
+
+    // What is written otherwise.
+    ensures untouched { result ≢ Status.Done → result ≢ Status.WriteFault → O.told out.new ≡ O.told out.old }
+    ensures prefix { result ≡ Status.WriteFault → ForSome (D.files desk.old) (λ files.
+        AppendsPrefix (O.told out.old) (O.told out.new) (answer words.now files).out) }
+    ensures memory { result ≡ Status.Memory → E.told err.new ≡ E.told err.old }
+
+    // Where no edge failed, the status is the definition's, if memory was found.
+    ensures complete { ForSome (D.files desk.old) (λ files. ¬ Rose (D.fault_count desk.old) (D.fault_count desk.new)
+        → ¬ Rose (O.fault_count out.old) (O.fault_count out.new) → ¬ Rose (E.fault_count err.old) (E.fault_count err.new)
+        → (result ≡ (answer words.now files).status) ⊎ (result ≡ Status.Memory)) }
+
+    // Whatever the XS file and the script: the C text that is written, read and run, tells what the file declares, and leaves nothing
+    // behind.
+    ensures text { EachTextRunsAsDeclared }
+    ensures exact { EachTextLeavesNothing }
+{
+    let Some(files) = read_words(words) else {
+        return finish(Status::Usage, b"", USAGE, out, err);
+    };
+    match answer_call(alloc, desk, files) {
+        Ok(a) => finish(a.status, a.out.as_slice(), a.err.as_slice(), out, err),
+        Err(Memory) => Status::Memory,
+    }
+}
+
+// Writes an answer.
+fn finish<O: Sink, E: Sink>(
+    status: Status,
+    out_text: &[u8],
+    err_text: &[u8],
+    out: &mut O,
+    err: &mut E,
+) -> Status
+    requires { status ≢ Status.WriteFault }
+    ensures status { (result ≡ status) ⊎ (result ≡ Status.WriteFault) }
+    ensures out { result ≢ Status.WriteFault → O.told out.new ≡ appended (O.told out.old) out_text.now }
+    ensures err { result ≢ Status.WriteFault → E.told err.new ≡ appended (E.told err.old) err_text.now }
+    ensures prefix { AppendsPrefix (O.told out.old) (O.told out.new) out_text.now }
+    ensures cause { result ≡ Status.WriteFault →
+        Rose (O.fault_count out.old) (O.fault_count out.new) ⊎ Rose (E.fault_count err.old) (E.fault_count err.new) }
+{
+    if put_all(out, out_text).is_err() {
+        return Status::WriteFault;
+    }
+    if put_all(err, err_text).is_err() {
+        return Status::WriteFault;
+    }
+    status
+}
