@@ -44,13 +44,10 @@ fn run(
 const CALL: [&str; 3] = ["call", "a.xs", "a.txt"];
 
 // The transcript of a script, which is written whole.
-fn tells(alloc: Global, xs: &[u8], script: &[u8], told: &str) -> Result<(), Fail> {
+fn tells(alloc: Global, xs: &[u8], script: &[u8], told: &str) -> Result<bool, Fail> {
     let mut desk = desk(alloc, xs, script)?;
     let (status, out, err) = run(alloc, &CALL, &mut desk, 4096)?;
-    assert_eq!(status, Status::Done);
-    assert_eq!(out.bytes(), told.as_bytes());
-    assert!(err.bytes().is_empty());
-    Ok(())
+    Ok(status == Status::Done && out.bytes() == told.as_bytes() && err.bytes().is_empty())
 }
 
 // A refusal: its status and its line.
@@ -61,22 +58,19 @@ fn refuses(
     script: &[u8],
     how: Status,
     line: &str,
-) -> Result<(), Fail> {
+) -> Result<bool, Fail> {
     let mut desk = desk(alloc, xs, script)?;
     let (status, out, err) = run(alloc, words, &mut desk, 4096)?;
-    assert_eq!(status, how);
-    assert!(out.bytes().is_empty());
-    assert_eq!(err.bytes(), line.as_bytes());
-    Ok(())
+    Ok(status == how && out.bytes().is_empty() && err.bytes() == line.as_bytes())
 }
 
 // What a boot and one call tell.
-fn tells_call(alloc: Global, script: &[u8], told: &str) -> Result<(), Fail> {
+fn tells_call(alloc: Global, script: &[u8], told: &str) -> Result<bool, Fail> {
     let whole = format!(in alloc; "{BOOT}{told}")?;
     tells(alloc, ADD, script, whole.as_str())
 }
 
-fn tells_settled_call(alloc: Global, script: &[u8], told: &str) -> Result<(), Fail> {
+fn tells_settled_call(alloc: Global, script: &[u8], told: &str) -> Result<bool, Fail> {
     let whole = format!(in alloc; "{told}{SETTLED}")?;
     tells_call(alloc, script, whole.as_str())
 }
@@ -84,53 +78,68 @@ fn tells_settled_call(alloc: Global, script: &[u8], told: &str) -> Result<(), Fa
 #[test]
 fn sums(rt: HostRuntime) -> Result<(), Fail> {
     let alloc = rt.alloc();
-    tells_settled_call(
-        alloc,
-        b"call M::add(2, 3)",
-        "call 1 M::add returned 1\n  item 0 = 5\n  arg 0 = 2\n  arg 1 = 3\n",
-    )?;
-    tells_settled_call(
-        alloc,
-        b"call M::add(-2, 2147483647)\n",
-        "call 1 M::add returned 1\n  item 0 = 2147483645\n  arg 0 = -2\n  arg 1 = 2147483647\n",
-    )?;
+    assert!(rt;
+        tells_settled_call(
+            alloc,
+            b"call M::add(2, 3)",
+            "call 1 M::add returned 1\n  item 0 = 5\n  arg 0 = 2\n  arg 1 = 3\n",
+        )?
+    );
+    assert!(rt;
+        tells_settled_call(
+            alloc,
+            b"call M::add(-2, 2147483647)\n",
+            "call 1 M::add returned 1\n  item 0 = 2147483645\n  arg 0 = -2\n  arg 1 = 2147483647\n",
+        )?
+    );
     // a number that an `int` does not hold is cut to it
-    tells_settled_call(
-        alloc,
-        b"call M::add(4294967297, 1)",
-        "call 1 M::add returned 1\n  item 0 = 2\n  arg 0 = 4294967297\n  arg 1 = 1\n",
-    )?;
-    tells_call(
-        alloc,
-        b"call M::add(2147483647, 1)",
-        "call 1 M::add trapped Overflow\n",
-    )?;
+    assert!(rt;
+        tells_settled_call(
+            alloc,
+            b"call M::add(4294967297, 1)",
+            "call 1 M::add returned 1\n  item 0 = 2\n  arg 0 = 4294967297\n  arg 1 = 1\n",
+        )?
+    );
+    assert!(rt;
+        tells_call(
+            alloc,
+            b"call M::add(2147483647, 1)",
+            "call 1 M::add trapped Overflow\n",
+        )?
+    );
     Ok(())
 }
 
 #[test]
 fn croaks(rt: HostRuntime) -> Result<(), Fail> {
     let alloc = rt.alloc();
-    tells_settled_call(
-        alloc,
-        b"call M::add(2)",
-        "call 1 M::add croaked \"Usage: M::add(a, b)\"\n  arg 0 = 2\n",
-    )?;
-    tells_settled_call(
-        alloc,
-        b"call M::nope()",
-        "call 1 M::nope croaked \"Undefined subroutine &M::nope called\"\n",
-    )?;
+    assert!(rt;
+        tells_settled_call(
+            alloc,
+            b"call M::add(2)",
+            "call 1 M::add croaked \"Usage: M::add(a, b)\"\n  arg 0 = 2\n",
+        )?
+    );
+    assert!(rt;
+        tells_settled_call(
+            alloc,
+            b"call M::nope()",
+            "call 1 M::nope croaked \"Undefined subroutine &M::nope called\"\n",
+        )?
+    );
     // the script goes on behind a croak, and ends behind a trap
     let told = format!(in alloc;
         "{BOOT}call 1 M::add croaked \"Usage: M::add(a, b)\"\n{SETTLED}call 2 M::add trapped Overflow\n"
     )?;
-    tells(
-        alloc,
-        ADD,
-        b"call M::add()\ncall M::add(-2147483648, -1)\ncall M::add(1, 1)\n",
-        told.as_str(),
-    )
+    assert!(rt;
+        tells(
+            alloc,
+            ADD,
+            b"call M::add()\ncall M::add(-2147483648, -1)\ncall M::add(1, 1)\n",
+            told.as_str(),
+        )?
+    );
+    Ok(())
 }
 
 #[test]
@@ -138,41 +147,50 @@ fn refusals(rt: HostRuntime) -> Result<(), Fail> {
     let alloc = rt.alloc();
     let usage =
         "usage: xsubpp compile FILE [TYPEMAP]\n       xsubpp call FILE SCRIPT [TYPEMAP]\n       xsubpp run TEXT SCRIPT\n       xsubpp check FILE [TYPEMAP]\n       xsubpp example N\n";
-    refuses(alloc, &[], ADD, b"", Status::Usage, usage)?;
-    refuses(alloc, &["call", "a.xs"], ADD, b"", Status::Usage, usage)?;
-    refuses(
-        alloc,
-        &["call", "b.xs", "a.txt"],
-        ADD,
-        b"",
-        Status::Missing,
-        "b.xs: missing\n",
-    )?;
-    refuses(
-        alloc,
-        &["call", "a.xs", "b.txt"],
-        ADD,
-        b"",
-        Status::Missing,
-        "b.txt: missing\n",
-    )?;
+    assert!(rt; refuses(alloc, &[], ADD, b"", Status::Usage, usage)?);
+    assert!(rt; refuses(alloc, &["call", "a.xs"], ADD, b"", Status::Usage, usage)?);
+    assert!(rt;
+        refuses(
+            alloc,
+            &["call", "b.xs", "a.txt"],
+            ADD,
+            b"",
+            Status::Missing,
+            "b.xs: missing\n",
+        )?
+    );
+    assert!(rt;
+        refuses(
+            alloc,
+            &["call", "a.xs", "b.txt"],
+            ADD,
+            b"",
+            Status::Missing,
+            "b.txt: missing\n",
+        )?
+    );
     // the XS file decides before the script
-    refuses(
-        alloc,
-        &CALL,
-        b"int\n",
-        b"cal\n",
-        Status::Refused,
-        "a.xs:0: 999 form not built yet\n",
-    )?;
-    refuses(
-        alloc,
-        &CALL,
-        ADD,
-        b"\ncal\n",
-        Status::Refused,
-        "a.txt:2: 951 bad script line\n",
-    )
+    assert!(rt;
+        refuses(
+            alloc,
+            &CALL,
+            b"int\n",
+            b"cal\n",
+            Status::Refused,
+            "a.xs:0: 999 form not built yet\n",
+        )?
+    );
+    assert!(rt;
+        refuses(
+            alloc,
+            &CALL,
+            ADD,
+            b"\ncal\n",
+            Status::Refused,
+            "a.txt:2: 951 bad script line\n",
+        )?
+    );
+    Ok(())
 }
 
 #[test]
@@ -181,15 +199,15 @@ fn edges(rt: HostRuntime) -> Result<(), Fail> {
     let mut failing = desk(alloc, ADD, b"")?;
     failing.fail_at(2).map_err(|_| "memory")?;
     let (status, out, err) = run(alloc, &CALL, &mut failing, 4096)?;
-    assert_eq!(status, Status::ReadFault);
-    assert!(out.bytes().is_empty());
-    assert_eq!(err.bytes(), b"a.txt: read fault\n");
+    assert!(rt; status == Status::ReadFault);
+    assert!(rt; out.bytes().is_empty());
+    assert!(rt; err.bytes() == b"a.txt: read fault\n".as_slice());
 
     let mut desk = desk(alloc, ADD, b"")?;
     let (status, out, err) = run(alloc, &CALL, &mut desk, 10)?;
-    assert_eq!(status, Status::WriteFault);
-    assert_eq!(out.bytes(), b"boot retur");
-    assert!(err.bytes().is_empty());
+    assert!(rt; status == Status::WriteFault);
+    assert!(rt; out.bytes() == b"boot retur".as_slice());
+    assert!(rt; err.bytes().is_empty());
     Ok(())
 }
 
@@ -200,12 +218,15 @@ fn too_long(rt: HostRuntime) -> Result<(), Fail> {
     for _ in 0..1025 {
         long.append(&[b' '; 1024]).map_err(|_| "memory")?;
     }
-    refuses(
-        alloc,
-        &CALL,
-        long.as_slice(),
-        b"",
-        Status::Refused,
-        "a.xs:0: 101 file too long\n",
-    )
+    assert!(rt;
+        refuses(
+            alloc,
+            &CALL,
+            long.as_slice(),
+            b"",
+            Status::Refused,
+            "a.xs:0: 101 file too long\n",
+        )?
+    );
+    Ok(())
 }
