@@ -82,10 +82,3 @@ end_lines show args (Returned items) = returned_text (length items) ++ (item_lin
 end_lines show args (Croaked text) = croaked_text text ++ arg_lines show 0 args
 end_lines show args (Trapped trap) = trapped_text trap
 end_lines show args Spent = spent_text
-
--- whether the script goes on behind a call
-abbrev pub goes_on : CallEnd → Option (Unit {0})
-goes_on (Returned items) = Some tt
-goes_on (Croaked text) = Some tt
-goes_on (Trapped trap) = None
-goes_on Spent = None
