@@ -4,3 +4,4 @@ pub mod Sinks
 pub mod Lines
 pub mod InMemory
 pub mod Reading
+pub mod Scanning

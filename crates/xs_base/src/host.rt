@@ -1,5 +1,5 @@
 //! The edges of the program: the files of the system, and std's writers.
-ghost use Rattle.std.specs.Prelude.{◌≡◌, ◌≤◌, ℕ, length, None, IfOk};
+ghost use Rattle.std.specs.Prelude.{◌≤◌, length, None, IfOk};
 
 use crate::{Bytes, Desk, DeskFault, Sink, SinkFault};
 use std::alloc::Global;

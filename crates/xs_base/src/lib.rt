@@ -1,5 +1,5 @@
-//! What every layer of the compiler stands on: bytes, lines, faults of the input, and the edges where files come in and
-//! text goes out.
+//! What every layer of the compiler stands on: bytes, lines, what stands in front of a text, faults of the input, and the
+//! edges where files come in and text goes out.
 #![tactic(auto)]
 
 mod bytes;
@@ -12,6 +12,7 @@ mod mem_desk;
 mod mem_sink;
 mod memory;
 mod place;
+mod scanning;
 mod sink;
 
 pub use bytes::Bytes;
@@ -24,4 +25,8 @@ pub use mem_desk::{HeldFile, MemDesk};
 pub use mem_sink::MemSink;
 pub use memory::Memory;
 pub use place::{FileOf, Line, Span};
+pub use scanning::{
+    after_byte, after_word, are_digits, begins_word, behind_blanks, digits_value, is_blank,
+    is_blank_line, is_digit, is_identifier, is_letter, is_word_byte,
+};
 pub use sink::{Sink, SinkFault, put_all};

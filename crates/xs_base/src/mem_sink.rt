@@ -1,6 +1,6 @@
 //! A sink in memory, for tests. It tells what it has taken, and fails at the calls that it is given and where its room is
 //! full.
-ghost use Rattle.std.specs.Prelude.{◌≡◌, ◌++◌, ◌∷◌, [], ◌≤◌, ◌<◌, ℕ, length, take, IfOk, OnErr, OnOk, Some};
+ghost use Rattle.std.specs.Prelude.{◌≡◌, ◌++◌, ◌∷◌, [], ◌≤◌, ◌<◌, length, take, IfOk, OnErr, OnOk, Some};
 ghost use Rattle.xs_base.specs.InMemory.{after_write, mem_write};
 ghost use Rattle.xs_base.specs.Sinks.{WriteCause, appended};
 

@@ -1,7 +1,7 @@
 -- The arguments of a call, made one behind the other.
 use Rattle.std.proofs.Common.{◌≡◌, ◌≢◌, ℤ, ℕ, Bool, true, false, cond, List, [], ◌∷◌, ◌++◌, length, None, Some, Result, Ok, Err, IfOk, OnOk, append-nil, refl, sym, ap, ◌∙◌, subst}
 use Rattle.std.specs.Prelude.{if◌then◌else◌}
-use Rattle.xs_call.specs.Running.{Made, AllMade, NotMade, args_made, calls_told, end_of, go_on, told_call, told_call_with, told_end, with_argument, with_name, with_world}
+use Rattle.xs_call.specs.Running.{Made, AllMade, NotMade, args_made, calls_told, end_of, go_on, told_call, told_call_with, told_end, with_argument, with_name}
 use Rattle.xs_machine.specs.declared.api.Operand.TheVariants.{Scalar}
 use Rattle.xs_machine.specs.declared.api.Frame.{Frame}
 use Rattle.xs_machine.specs.declared.api.Abrupt.TheVariants.{Traps}
@@ -9,7 +9,7 @@ use Rattle.xs_machine.specs.Rows.{new_mortal, trapped}
 use Rattle.xs_machine.specs.State.{Gives, Ends}
 use Rattle.xs_machine.specs.World.{World, may_make}
 use Rattle.xs_machine.specs.Machine.{Mach, called}
-use Rattle.xs_machine.specs.Views.{MakesArgument}
+use Rattle.xs_machine.specs.Views.{MakesArgument, with_world}
 use Rattle.xs_machine.specs.declared.api.Stop.{Stop}
 use Rattle.xs_machine.specs.declared.api.Stop.TheVariants as stop
 use Rattle.xs_call.specs.Runs.{IsTold, MakesArguments}
@@ -19,7 +19,7 @@ use Rattle.xs_call.specs.declared.running.Telling.{Telling}
 use Rattle.xs_call.specs.declared.running.TheConstants.{TURNS}
 use Rattle.xs_machine.specs.declared.machine.Outcome.{Outcome}
 use Rattle.xs_machine.specs.declared.machine.Outcome.TheVariants as outcome
-use Rattle.xs_machine.specs.Tree.{Code}
+use Rattle.xs_ccheck.specs.Tree.{Code}
 use Rattle.xs_base.specs.declared.memory.Memory.{Memory}
 use Rattle.xs_values.specs.declared.plain.Plain.TheVariants.{Int}
 use Rattle.xs_values.specs.declared.trap.Trap.{Trap}

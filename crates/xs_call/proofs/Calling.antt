@@ -1,7 +1,7 @@
 -- Where the machine stands behind a call, by the ways out.
-use Rattle.std.proofs.Common.{◌≡◌, ℕ, suc, ℤ, ◌+◌, ◌-◌, ◌<◌, ◌≤◌, arith, true, false, List, [], ◌∷◌, ◌++◌, length, Some, None, refl, ap, ◌∙◌}
+use Rattle.std.proofs.Common.{◌≡◌, ℕ, suc, ℤ, ◌+◌, ◌-◌, ◌<◌, ◌≤◌, arith, true, false, List, [], ◌∷◌, ◌++◌, map, length, replicate, Some, None, refl, ap, ◌∙◌}
 use Rattle.std.proofs.lemmas.Bool.Decides.{nat_tests}
-use Rattle.std.specs.Prelude.{◌==◌, nat_lt, Result, Ok, Err}
+use Rattle.std.specs.Prelude.{◌==◌, nat_lt, Ok, Err}
 use Rattle.xs_machine.proofs.Ends.{run_over, stays}
 use Rattle.xs_machine.specs.declared.api.Frame.{Frame}
 use Rattle.xs_machine.specs.declared.api.Operand.{Operand}
@@ -9,25 +9,24 @@ use Rattle.xs_machine.specs.declared.api.Operand.TheVariants.{Unset, Num, Scalar
 use Rattle.xs_machine.specs.declared.api.Registered.{Registered}
 use Rattle.xs_machine.specs.declared.machine.Outcome.{Outcome}
 use Rattle.xs_machine.specs.declared.machine.Outcome.TheVariants as outcome
-use Rattle.xs_machine.specs.Machine.{Mach, halt, run, run_on, Enter, Leave, begun_at, called, call_meaning, call_over, function_at, is_over, left, undefined_text, with_call}
+use Rattle.xs_machine.specs.Cmean.{meaning}
+use Rattle.xs_ccheck.specs.Functions.{function_at}
+use Rattle.xs_machine.specs.Machine.{Mach, halt, run, run_on, Enter, Leave, begun_at, called, call_meaning, call_over, is_over, left, undefined_text, with_call}
 use Rattle.xs_machine.specs.Rows.{counted_rows, usage_text}
 use Rattle.xs_machine.specs.State.{State}
-use Rattle.xs_machine.specs.Tree.{Code}
-use Rattle.xs_machine.specs.World.{Cells, World, Clean, cell_at, depths_of, is_read_only, may_make, registered, sweep}
+use Rattle.xs_ccheck.specs.Tree.{Code}
+use Rattle.xs_machine.specs.World.{Cells, World, Clean, depths_of, is_read_only, may_make, registered, sweep}
 use Rattle.xs_values.specs.declared.kind.Kind.TheVariants.{I32, I64}
-use Rattle.xs_values.specs.declared.operator.Op.TheVariants.{Add}
 use Rattle.xs_values.specs.declared.trap.Trap.{Trap}
 use Rattle.xs_values.specs.declared.trap.Trap.TheVariants.{Large}
-use Rattle.xs_values.specs.Numbers.{Number, calculated, wrapped, wrapped_value}
-use Rattle.xs_iface.specs.declared.xsub.Param.{Param}
-use Rattle.xs_iface.specs.declared.xsub.Term.{Term}
+use Rattle.xs_values.specs.Numbers.{Number, wrapped, wrapped_value}
 use Rattle.xs_iface.specs.declared.xsub.Xsub.{Xsub}
+use Rattle.xs_iface.specs.SumForm.{All, IsTermOf}
 use Rattle.xs_stub.specs.Stub.{joined_names}
-use Rattle.xs_call.specs.GlueCode.{xsub_function}
-use Rattle.xs_call.specs.Headline.{IsTermOfTwo}
-use Rattle.xs_call.specs.Meaning.{term_value}
-use Rattle.xs_call.proofs.Statements.{state}
-use Rattle.xs_call.proofs.Bodies.{formed, frame, world, unset, holds, usage_means, trapped_means, large_means, returned_means}
+use Rattle.xs_call.specs.GlueCode.{xsub_body, xsub_function}
+use Rattle.xs_call.specs.Meaning.{sum_of}
+use Rattle.xs_call.proofs.Statements.{state, world, frame}
+use Rattle.xs_call.proofs.Bodies.{HoldAll, holds, inputs_from, usage_means, work_means, trapped_means, large_means, returned_means}
 
 -- the machine between the calls
 abbrev pub resting : Outcome → List Operand → Frame → World → ℕ → Mach World
@@ -79,57 +78,59 @@ module _ (code : Code) (sub args temps : List ℕ) (cells : Cells) (names : List
   pub unknown_called : (turns : ℕ) → length args ≤ 1000000 → registered sub names ≡ None → EndsAs (called code sub args turns (resting o vars f before t0)) (outcome.Croaked (undefined_text sub)) before
   unknown_called turns h e = record { vars = []; frame = frame sub 0; turns = turns; is = over turns h ∙ rw (e, cut_called (0 + length args)) refl }
 
-  module _ (x : Xsub) (p q : Param) (t u : Term) (known : registered sub names ≡ Some 0) (here : function_at code (Some 0) ≡ Some (xsub_function (formed x p q t u))) where
+  -- ---- a name that a function has
+
+  module _ (x : Xsub) (i : ℕ) (known : registered sub names ≡ Some i) (here : function_at code (Some i) ≡ Some (xsub_function x)) (few : length x.params ≤ 1000000) (turns : ℕ) (held : length args ≤ 1000000) where
+    abbrev end : Mach World
+    end = called code sub args (suc turns) (resting o vars f before t0)
+
+    abbrev unset : List Operand
+    unset = replicate (length x.params + 2) Unset
+
+    -- the state at the entry of the function
+    abbrev entry : State World
+    entry = state unset (frame sub 0) (world cells args (0 + length args) (0 ∷ []) temps names) turns
+
+    enters : end ≡ call_over counted_rows code (depths_of before) (meaning counted_rows (xsub_body x) entry)
+    enters = over (suc turns) held ∙ rw (known, here) refl
+
     -- another number of arguments
-    pub usage_called : (turns : ℕ) → length args ≤ 1000000 → (length args == 2) ≡ false → EndsAs (called code sub args (suc turns) (resting o vars f before t0)) (outcome.Croaked (usage_text sub (joined_names (p ∷ q ∷ [])))) before
-    usage_called turns h d = record {
+    pub usage_called : (length args == length x.params) ≡ false → EndsAs end (outcome.Croaked (usage_text sub (joined_names x.params))) before
+    usage_called d = record {
       vars = unset;
       frame = frame sub (0 + length args - 0);
       turns = turns;
-      is = over (suc turns) h ∙ rw (known, here, usage_means x p q t u sub args temps cells names (0 + length args) turns (omega arith) h d, cut_entered (0 + length args)) refl;
+      is = enters ∙ ap (call_over counted_rows code (depths_of before)) (usage_means x unset sub args temps cells names (0 + length args) turns (omega arith) held few d) ∙ rw (cut_entered (0 + length args)) refl;
     }
 
--- ---- two arguments
+    -- as many arguments as parameters
+    module _ (many : (length args == length x.params) ≡ true) (zs : List ℤ) (h : HoldAll cells x.params args zs) (terms : All (IsTermOf (length (inputs_from zs))) x.sum) where
+      abbrev numbers : List Operand
+      numbers = map Num (inputs_from zs)
 
-module _ (code : Code) (sub temps : List ℕ) (n0 n1 : ℕ) (cells : Cells) (names : List Registered) (o : Outcome) (vars : List Operand) (f : Frame) (t0 turns : ℕ) (goes : is_over o ≡ false) (x : Xsub) (p q : Param) (t u : Term) (ht : IsTermOfTwo t) (hu : IsTermOfTwo u) (known : registered sub names ≡ Some 0) (here : function_at code (Some 0) ≡ Some (xsub_function (formed x p q t u))) (a b : ℤ) (e0 : cell_at n0 cells ≡ holds a) (e1 : cell_at n1 cells ≡ holds b) where
-  abbrev pair : List ℕ
-  pair = n0 ∷ n1 ∷ []
+      pub trapped_called : (trap : Trap) → sum_of (inputs_from zs) x.sum ≡ Err trap → EndsAs end (outcome.Trapped trap) (world cells args (0 + length args) [] temps names)
+      trapped_called trap e = record {
+        vars = numbers ++ Unset ∷ Unset ∷ [];
+        frame = frame sub (0 + length args - 0);
+        turns = turns;
+        is = enters ∙ ap (call_over counted_rows code (depths_of before)) (work_means x unset sub args temps cells names (0 + length args) turns (omega arith) held few many _ _ (trapped_means x zs sub args temps cells names (0 + length args - 0) (0 + length args) turns h terms trap e));
+      }
 
-  abbrev end : Mach World
-  end = called code sub pair (suc turns) (resting o vars f (world cells [] 0 [] temps names) t0)
+      pub large_called : (n : Number) → sum_of (inputs_from zs) x.sum ≡ Ok n → may_make cells ≡ false → EndsAs end (outcome.Trapped Large) (world cells args (0 + length args) [] temps names)
+      large_called n e full = record {
+        vars = numbers ++ Num (wrapped I32 n.value) ∷ Unset ∷ [];
+        frame = frame sub (0 + length args - 0);
+        turns = turns;
+        is = enters ∙ ap (call_over counted_rows code (depths_of before)) (work_means x unset sub args temps cells names (0 + length args) turns (omega arith) held few many _ _ (large_means x zs sub args temps cells names (0 + length args - 0) (0 + length args) turns h terms n e full));
+      }
 
-  goes_over : end ≡ call_over counted_rows code (depths_of (world cells [] 0 [] temps names)) (call_meaning counted_rows code (function_at code (registered sub names)) (state [] (frame sub 0) (with_call pair (world cells [] 0 [] temps names)) (suc turns)))
-  goes_over = over code sub pair temps cells names o vars f t0 goes (suc turns) (omega arith)
+      abbrev stored : Number → ℤ
+      stored n = wrapped_value I64 (wrapped_value I64 (wrapped_value I32 n.value))
 
-  abbrev sum : Result Number Trap
-  sum = calculated Add (term_value (wrapped I32 a ∷ wrapped I32 b ∷ []) t) (term_value (wrapped I32 a ∷ wrapped I32 b ∷ []) u)
-
-  abbrev first_two : List Operand
-  first_two = Num (wrapped I32 a) ∷ Num (wrapped I32 b) ∷ []
-
-  pub trapped_called : (trap : Trap) → sum ≡ Err trap → EndsAs end (outcome.Trapped trap) (world cells pair 2 [] temps names)
-  trapped_called trap e = record {
-    vars = first_two ++ Unset ∷ Unset ∷ [];
-    frame = frame sub 2;
-    turns = turns;
-    is = goes_over ∙ rw (known, here, trapped_means x p q t u ht hu sub temps cells names n0 n1 turns a b e0 e1 trap e) refl;
-  }
-
-  pub large_called : (n : Number) → sum ≡ Ok n → may_make cells ≡ false → EndsAs end (outcome.Trapped Large) (world cells pair 2 [] temps names)
-  large_called n e full = record {
-    vars = first_two ++ Num (wrapped I32 n.value) ∷ Unset ∷ [];
-    frame = frame sub 2;
-    turns = turns;
-    is = goes_over ∙ rw (known, here, large_means x p q t u ht hu sub temps cells names n0 n1 turns a b e0 e1 n e full) refl;
-  }
-
-  abbrev stored : Number → ℤ
-  stored n = wrapped_value I64 (wrapped_value I64 (wrapped_value I32 n.value))
-
-  pub returned_called : (n : Number) → sum ≡ Ok n → may_make cells ≡ true → is_read_only (length cells) ≡ false → EndsAs end (outcome.Returned (length cells ∷ [])) (world (cells ++ holds (stored n) ∷ []) (length cells ∷ []) 1 [] (length cells ∷ temps) names)
-  returned_called n e room writable = record {
-    vars = first_two ++ Num (wrapped I32 n.value) ∷ Scalar (Some (length cells)) ∷ [];
-    frame = frame sub 2;
-    turns = turns;
-    is = goes_over ∙ rw (known, here, returned_means x p q t u ht hu sub temps cells names n0 n1 turns a b e0 e1 n e room writable) refl;
-  }
+      pub returned_called : (n : Number) → sum_of (inputs_from zs) x.sum ≡ Ok n → may_make cells ≡ true → is_read_only (length cells) ≡ false → EndsAs end (outcome.Returned (length cells ∷ [])) (world (cells ++ holds (stored n) ∷ []) (length cells ∷ []) 1 [] (length cells ∷ temps) names)
+      returned_called n e room writable = record {
+        vars = numbers ++ Num (wrapped I32 n.value) ∷ Scalar (Some (length cells)) ∷ [];
+        frame = frame sub (0 + length args - 0);
+        turns = turns;
+        is = enters ∙ ap (call_over counted_rows code (depths_of before)) (work_means x unset sub args temps cells names (0 + length args) turns (omega arith) held few many _ _ (returned_means x zs sub args temps cells names (0 + length args - 0) (0 + length args) turns h terms n e room writable));
+      }

@@ -1,5 +1,5 @@
 -- One command: both definitions tell the same of it, and leave what fits together.
-use Rattle.std.proofs.Common.{◌≡◌, ℕ, ℤ, ◌+◌, ◌≤◌, arith, false, List, [], ◌++◌, length, Option, Some, None, refl, ap, ◌∙◌, append_assoc, length-append}
+use Rattle.std.proofs.Common.{◌≡◌, ℕ, ℤ, ◌+◌, ◌≤◌, arith, false, List, [], ◌++◌, length, Option, Some, None, refl, sym, ap, subst, ◌∙◌, append_assoc, length-append}
 use Rattle.std.specs.Prelude.{⊤}
 use Rattle.xs_machine.specs.declared.api.Frame.{Frame}
 use Rattle.xs_machine.specs.declared.api.Operand.{Operand}
@@ -8,14 +8,15 @@ use Rattle.xs_machine.specs.declared.machine.Outcome.{Outcome}
 use Rattle.xs_machine.specs.declared.machine.Outcome.TheVariants as outcome
 use Rattle.xs_machine.specs.Machine.{Mach, is_over}
 use Rattle.xs_machine.specs.World.{Cells, World, live_of}
+use Rattle.xs_values.specs.declared.trap.Trap.{Trap}
 use Rattle.xs_call.specs.declared.calls.CallCommand.{CallCommand}
 use Rattle.xs_call.specs.Meaning as declared
-use Rattle.xs_call.specs.Meaning.{Store, Ended, names_from, show_in, term_value}
+use Rattle.xs_call.specs.Meaning.{Store, show_in}
 use Rattle.xs_call.specs.Running as running
 use Rattle.xs_call.specs.Running.{end_of, show_cell}
-use Rattle.xs_call.specs.Transcript.{Returned, Croaked, call_text, end_lines, live_line}
-use Rattle.xs_call.proofs.Bodies.{world}
-use Rattle.xs_call.proofs.Calling.{resting}
+use Rattle.xs_call.specs.Transcript.{Returned, Croaked, Trapped, call_text, end_lines, live_line}
+use Rattle.xs_call.proofs.Calling.{EndsAs, resting}
+use Rattle.xs_call.proofs.Statements.{world}
 use Rattle.xs_call.proofs.Temporaries.{made, gone, newest, all_swept, length-gone, none_left}
 
 -- the machine between two commands, over names, beside the declared store
@@ -42,6 +43,15 @@ SameNext names (Some m) None = ⊥
 pub record SameTold (names : List Registered) (a : running.Told) (b : declared.Told) : Type 0 where
   pub text : a.text ≡ b.text
   pub next : SameNext names a.next b.next
+
+-- what a command tells behind a call that ended so
+pub told_behind : (names : List Registered) (c : CallCommand) (args : List ℕ) (m : Mach World) (o : Outcome) (w : World) (b : declared.Told) → EndsAs m o w → ((vars : List Operand) (f : Frame) (turns : ℕ) → SameTold names (running.told_end (call_text c) args (end_of o) (resting o vars f w turns)) b) → SameTold names (running.told_end (call_text c) args (end_of m.stopped) m) b
+told_behind names c args m o w b e f =
+    let P : Mach World → Type 0 = λ x. SameTold names (running.told_end (call_text c) args (end_of x.stopped) x) b in
+    subst P (sym e.is) (f e.vars e.frame e.turns)
+
+pub trapped_behind : (names : List Registered) (c : CallCommand) (args : List ℕ) (m : Mach World) (trap : Trap) (w : World) (s : Store) → EndsAs m (outcome.Trapped trap) w → SameTold names (running.told_end (call_text c) args (end_of m.stopped) m) (declared.told_end c args (Trapped trap) s)
+trapped_behind names c args m trap w s e = told_behind names c args m (outcome.Trapped trap) w (declared.told_end c args (Trapped trap) s) e (λ vars f turns. record { text = refl; next = tt })
 
 -- ---- behind a call that goes on
 

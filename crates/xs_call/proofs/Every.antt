@@ -1,42 +1,36 @@
 -- Every call and every command: both definitions tell the same.
-use Rattle.std.proofs.Common.{◌≡◌, ℕ, suc, ℤ, ◌+◌, ◌<◌, ◌≤◌, arith, Bool, true, false, cond, List, [], ◌∷◌, ◌++◌, map, length, Some, None, refl, sym, ap, subst, append_assoc, length-append}
+use Rattle.std.proofs.Common.{◌≡◌, ℕ, suc, ℤ, ◌+◌, ◌<◌, ◌≤◌, arith, Bool, true, false, List, [], ◌∷◌, ◌++◌, map, length, Option, Some, None, refl, sym, ap, subst, append_assoc, length-append}
 use Rattle.std.proofs.lemmas.Bool.Decides.{nat_tests}
-use Rattle.std.specs.Prelude.{◌==◌, nat_le, codes}
-use Rattle.std.specs.Str.{bytes_eq}
+use Rattle.std.specs.Prelude.{◌==◌, nat_le, codes, slice_get}
 use Rattle.xs_machine.specs.declared.api.Frame.{Frame}
 use Rattle.xs_machine.specs.declared.api.Operand.{Operand}
 use Rattle.xs_machine.specs.declared.api.Registered.{Registered}
 use Rattle.xs_machine.specs.declared.machine.Outcome.{Outcome}
 use Rattle.xs_machine.specs.declared.machine.Outcome.TheVariants as outcome
-use Rattle.xs_machine.specs.Machine.{Mach, called, function_at, is_over, undefined_text}
+use Rattle.xs_machine.specs.Machine.{Mach, called, is_over, undefined_text}
 use Rattle.xs_machine.specs.Rows.{usage_text}
-use Rattle.xs_machine.specs.Tree.{Code}
-use Rattle.xs_machine.specs.World.{Cells, World, live_of}
+use Rattle.xs_ccheck.specs.Tree.{Code}
+use Rattle.xs_machine.specs.World.{Cells, World, live_of, registered}
 use Rattle.xs_values.specs.declared.plain.Plain.TheVariants.{Int}
 use Rattle.xs_values.specs.declared.trap.Trap.TheVariants.{Large}
 use Rattle.xs_iface.specs.declared.xsub.Module.{Module}
-use Rattle.xs_iface.specs.declared.xsub.Param.{Param}
-use Rattle.xs_iface.specs.declared.xsub.Term.{Term}
 use Rattle.xs_iface.specs.declared.xsub.Xsub.{Xsub}
+use Rattle.xs_iface.specs.SumForm.{IsSumModule, IsSumXsub}
 use Rattle.xs_stub.specs.Stub.{joined_names}
 use Rattle.xs_call.specs.declared.calls.CallCommand.{CallCommand}
-use Rattle.xs_call.specs.GlueCode.{xsub_function}
-use Rattle.xs_call.specs.Headline.{IsTermOfTwo}
+use Rattle.xs_call.specs.GlueCode.{boot_function, functions_on, xsub_function}
 use Rattle.xs_call.specs.Meaning as declared
-use Rattle.xs_call.specs.Meaning.{Store, Ended, names_from, show_in}
+use Rattle.xs_call.specs.Meaning.{Store, Ended, names_from, show_in, xsub_named}
 use Rattle.xs_call.specs.Running as running
 use Rattle.xs_call.specs.Running.{end_of, show_cell}
 use Rattle.xs_call.specs.Transcript.{Croaked, call_text, croaked_text, end_lines}
-use Rattle.xs_call.proofs.Bodies.{formed, world}
+use Rattle.xs_call.proofs.Accepted.{accepted_same, length_values}
 use Rattle.xs_call.proofs.Calling.{EndsAs, resting, too_many_called, unknown_called, usage_called}
-use Rattle.xs_call.proofs.Commands.{AtRest, SameTold, Leaves, croaked_told}
-use Rattle.xs_call.proofs.Pairs.{formed_module, registered_names, told_behind, trapped_behind, pair_same}
+use Rattle.xs_call.proofs.Commands.{AtRest, SameTold, Leaves, croaked_told, told_behind, trapped_behind}
+use Rattle.xs_call.proofs.Named.{found, registered_on}
 use Rattle.xs_call.proofs.Shown.{arg_lines-all}
+use Rattle.xs_call.proofs.Statements.{world}
 use Rattle.xs_call.proofs.Temporaries.{made, newest, all_made, not_made}
-
-length_map_int : (zs : List ℤ) → length (map Int zs) ≡ length zs
-length_map_int [] = refl
-length_map_int (z ∷ zs) = ap suc (length_map_int zs)
 
 -- the text of a usage croak
 same_usage : (called text : List ℕ) → usage_text called text ≡ codes "Usage: " ++ called ++ 40 ∷ text ++ 41 ∷ []
@@ -48,78 +42,74 @@ at_most n e = grind (arith, nat_tests)
 more_than : (n : ℕ) → nat_le n 1000000 ≡ false → 1000000 < n
 more_than n e = grind (arith, nat_tests)
 
-not_two : (n : ℕ) → (suc (suc (suc n)) == 2) ≡ false
-not_two n = grind (arith, nat_tests)
+-- the names that the boot of a module registers
+abbrev pub registered_names : Module → List Registered
+registered_names m = registered_on 0 m.xsubs []
 
-module _ (code : Code) (m : Module) (x : Xsub) (p q : Param) (t u : Term) (ht : IsTermOfTwo t) (hu : IsTermOfTwo u) (here : function_at code (Some 0) ≡ Some (xsub_function (formed x p q t u))) where
+module _ (code : Code) (m : Module) (good : IsSumModule m) (glue : code.functions ≡ functions_on (boot_function m) m.xsubs) where
   abbrev names : List Registered
-  names = registered_names x
+  names = registered_names m
 
-  abbrev form : Module
-  form = formed_module m x p q t u
+  module _ (c : CallCommand) (o : Outcome) (vars : List Operand) (f : Frame) (t0 turns : ℕ) (goes : is_over o ≡ false) (h : Cells) (s : Store) (long : 5 ≤ length h) (none : live_of h ≡ 0) (same : length h ≡ length s) (zs : List ℤ) (fits : length h + length zs ≤ 4000005) where
+    abbrev args : List ℕ
+    args = names_from (length h) zs
 
-  module _ (c : CallCommand) (o : Outcome) (vars : List Operand) (f : Frame) (t0 turns : ℕ) (goes : is_over o ≡ false) (h : Cells) (s : Store) (long : 5 ≤ length h) (none : live_of h ≡ 0) (same : length h ≡ length s) (few : length h ≤ 4000005) where
-    abbrev args : List ℤ → List ℕ
-    args zs = names_from (length h) zs
+    abbrev store : Store
+    store = s ++ map Int zs
 
-    abbrev store : List ℤ → Store
-    store zs = s ++ map Int zs
+    abbrev temps : List ℕ
+    temps = newest (length h) zs []
 
-    abbrev end : List ℤ → Mach World
-    end zs = called code c.sub (args zs) (suc turns) (resting o vars f (world (h ++ made zs) [] 0 [] (newest (length h) zs []) names) t0)
+    abbrev end : Mach World
+    end = called code c.sub args (suc turns) (resting o vars f (world (h ++ made zs) [] 0 [] temps names) t0)
 
-    abbrev Same : List ℤ → Ended → Type 0
-    Same zs d = SameTold names (running.told_end (call_text c) (args zs) (end_of (end zs).stopped) (end zs)) (declared.told_ended c (args zs) d)
+    abbrev Same : Ended → Type 0
+    Same d = SameTold names (running.told_end (call_text c) args (end_of end.stopped) end) (declared.told_ended c args d)
 
-    abbrev declared_end : List ℤ → Ended
-    declared_end zs = declared.called form c.sub (store zs) (args zs)
+    left : Leaves store h zs
+    left = record { long = long; none = none; same = omega (arith, same, length-append s (map Int zs), length_values zs); few = fits }
 
-    left : (zs : List ℤ) → length h + length zs ≤ 4000005 → Leaves (store zs) h zs
-    left zs fits = record { long = long; none = none; same = omega (arith, same, length-append s (map Int zs), length_map_int zs); few = fits }
+    lines : (text : List ℕ) → end_lines (show_cell (h ++ made zs)) args (Croaked text) ≡ end_lines (show_in store) args (Croaked text)
+    lines text = ap (λ l. croaked_text text ++ l) (arg_lines-all zs h s (length h) refl (sym same))
 
-    lines : (zs : List ℤ) (text : List ℕ) → end_lines (show_cell (h ++ made zs)) (args zs) (Croaked text) ≡ end_lines (show_in (store zs)) (args zs) (Croaked text)
-    lines zs text = ap (λ l. croaked_text text ++ l) (arg_lines-all zs h s (length h) refl (sym same))
+    croak_same : (text : List ℕ) → EndsAs end (outcome.Croaked text) (world (h ++ made zs) [] 0 [] temps names) → Same (record { how = Croaked text; store = store })
+    croak_same text e =
+        told_behind names c args end (outcome.Croaked text) _ (declared.told_end c args (Croaked text) store) e
+        (λ vs g k. croaked_told names c args vs g k [] 0 h zs store left text (lines text))
 
-    croak_same : (zs : List ℤ) (text : List ℕ) → length h + length zs ≤ 4000005 → EndsAs (end zs) (outcome.Croaked text) (world (h ++ made zs) [] 0 [] (newest (length h) zs []) names) → Same zs (record { how = Croaked text; store = store zs })
-    croak_same zs text fits e =
-        told_behind names c (args zs) (end zs) (outcome.Croaked text) _ (declared.told_end c (args zs) (Croaked text) (store zs)) e
-        (λ vs g k. croaked_told names c (args zs) vs g k [] 0 h zs (store zs) (left zs fits) text (lines zs text))
+    many_same : nat_le (length args) 1000000 ≡ false → Same (declared.called m c.sub store args)
+    many_same e = rw e (trapped_behind names c args end Large _ store (too_many_called code c.sub args temps (h ++ made zs) names o vars f t0 goes (suc turns) (more_than (length args) e)))
 
-    module _ (zs : List ℤ) (fits : length h + length zs ≤ 4000005) where
-      abbrev temps : List ℕ
-      temps = newest (length h) zs []
+    module _ (held : length args ≤ 1000000) where
+      -- what is to be shown of a name that finds these
+      abbrev NameSame : Option ℕ → Option Xsub → Type 0
+      NameSame place xsub = registered c.sub names ≡ place → Same (declared.call_ended c.sub xsub store args)
 
-      many_same : nat_le (length (args zs)) 1000000 ≡ false → Same zs (declared_end zs)
-      many_same e =
-          rw e (trapped_behind names c (args zs) (end zs) Large _ (store zs) (too_many_called code c.sub (args zs) temps (h ++ made zs) names o vars f t0 goes (suc turns) (more_than (length (args zs)) e)))
+      unknown_same : NameSame None None
+      unknown_same e = croak_same (undefined_text c.sub) (unknown_called code c.sub args temps (h ++ made zs) names o vars f t0 goes (suc turns) held e)
 
-      unknown_same : nat_le (length (args zs)) 1000000 ≡ true → bytes_eq x.full c.sub ≡ false → Same zs (declared_end zs)
-      unknown_same e k =
-          let says : declared_end zs ≡ record { how = Croaked (undefined_text c.sub); store = store zs } = rw (e, k) refl in
-          subst (Same zs) (sym says) (croak_same zs (undefined_text c.sub) fits (unknown_called code c.sub (args zs) temps (h ++ made zs) names o vars f t0 goes (suc turns) (at_most (length (args zs)) e) (ap (λ w. cond w (Some 0) None) k)))
+      usage_same : (x : Xsub) (i : ℕ) → IsSumXsub x → slice_get code.functions i ≡ Some (xsub_function x) → registered c.sub names ≡ Some i → (length args == length x.params) ≡ false → Same (declared.xsub_ended c.sub x store args)
+      usage_same x i ok here e d =
+          let says : declared.xsub_ended c.sub x store args ≡ record { how = Croaked (usage_text c.sub (joined_names x.params)); store = store } = rw d (ap (λ text. record { how = Croaked text; store = store }) (sym (same_usage c.sub (joined_names x.params)))) in
+          subst Same (sym says) (croak_same (usage_text c.sub (joined_names x.params)) (usage_called code c.sub args temps (h ++ made zs) names o vars f t0 goes x i e here (omega (arith, ok.few_params)) turns held d))
 
-      usage_same : nat_le (length (args zs)) 1000000 ≡ true → bytes_eq x.full c.sub ≡ true → (length (args zs) == 2) ≡ false → Same zs (declared_end zs)
-      usage_same e k d =
-          let says : declared_end zs ≡ record { how = Croaked (usage_text c.sub (joined_names (p ∷ q ∷ []))); store = store zs } = rw (e, k, d) (ap (λ text. record { how = Croaked text; store = store zs }) (sym (same_usage c.sub (joined_names (p ∷ q ∷ []))))) in
-          subst (Same zs) (sym says) (croak_same zs (usage_text c.sub (joined_names (p ∷ q ∷ []))) fits (usage_called code c.sub (args zs) temps (h ++ made zs) names o vars f t0 goes x p q t u (ap (λ w. cond w (Some 0) None) k) here turns (at_most (length (args zs)) e) d))
+      by_arguments : (x : Xsub) (i : ℕ) → IsSumXsub x → slice_get code.functions i ≡ Some (xsub_function x) → registered c.sub names ≡ Some i → (b : Bool) → (length args == length x.params) ≡ b → Same (declared.xsub_ended c.sub x store args)
+      by_arguments x i ok here e true d = accepted_same code names x ok i c e here o vars f t0 turns goes h s long none same zs held d
+      by_arguments x i ok here e false d = usage_same x i ok here e d
 
-    known_same : (zs : List ℤ) → length h + length zs ≤ 4000005 → nat_le (length (args zs)) 1000000 ≡ true → bytes_eq x.full c.sub ≡ true → Same zs (declared_end zs)
-    known_same [] fits e k = usage_same [] fits e k refl
-    known_same (a ∷ []) fits e k = usage_same (a ∷ []) fits e k refl
-    known_same (a ∷ b ∷ []) fits e k = pair_same code m x p q t u ht hu here c k o vars f t0 turns goes h s long none same few a b
-    known_same (a ∷ b ∷ d ∷ zs) fits e k = usage_same (a ∷ b ∷ d ∷ zs) fits e k (not_two (length (names_from (length h + 1 + 1 + 1) zs)))
+      known_same : (x : Xsub) (i : ℕ) → IsSumXsub x → slice_get code.functions i ≡ Some (xsub_function x) → NameSame (Some i) (Some x)
+      known_same x i ok here e = by_arguments x i ok here e (length args == length x.params) refl
 
-    by_name : (zs : List ℤ) → length h + length zs ≤ 4000005 → nat_le (length (args zs)) 1000000 ≡ true → (k : Bool) → bytes_eq x.full c.sub ≡ k → Same zs (declared_end zs)
-    by_name zs fits e true k = known_same zs fits e k
-    by_name zs fits e false k = unknown_same zs fits e k
+      name_same : Same (declared.call_ended c.sub (xsub_named c.sub m.xsubs) store args)
+      name_same = found c.sub code.functions (boot_function m) NameSame unknown_same known_same m.xsubs good.xsubs good.names_differ glue refl
 
-    by_count : (zs : List ℤ) → length h + length zs ≤ 4000005 → (e : Bool) → nat_le (length (args zs)) 1000000 ≡ e → Same zs (declared_end zs)
-    by_count zs fits true e = by_name zs fits e (bytes_eq x.full c.sub) refl
-    by_count zs fits false e = many_same zs fits e
+    by_count : (b : Bool) → nat_le (length args) 1000000 ≡ b → Same (declared.called m c.sub store args)
+    by_count true e = rw e (name_same (at_most (length args) e))
+    by_count false e = many_same e
 
     -- a call with any arguments
-    pub call_same : (zs : List ℤ) → length h + length zs ≤ 4000005 → Same zs (declared_end zs)
-    call_same zs fits = by_count zs fits (nat_le (length (args zs)) 1000000) refl
+    pub call_same : Same (declared.called m c.sub store args)
+    call_same = by_count (nat_le (length args) 1000000) refl
 
   -- ---- a command
 
@@ -134,14 +124,14 @@ module _ (code : Code) (m : Module) (x : Xsub) (p q : Param) (t u : Term) (ht : 
     rest = resting o vars f (world h [] 0 [] [] names) t0
 
     abbrev SameCommand : Type 0
-    SameCommand = SameTold names (running.told_call code rest c) (declared.told_call form s c)
+    SameCommand = SameTold names (running.told_call code rest c) (declared.told_call m s c)
 
     room_same : declared.may_make (length c.args) s ≡ true → SameCommand
     room_same e =
         let fits = held (length h) (length c.args) s same e in
-        let called_so : SameTold names (running.told_call code rest c) (declared.told_ended c (names_from (length h) c.args) (declared.called form c.sub (s ++ map Int c.args) (names_from (length h) c.args))) =
-        rw (all_made c.args h (length h) [] names refl fits) (call_same c o vars f t0 999999 goes h s long none same few c.args fits) in
-        let P : ℕ → Type 0 = λ n. SameTold names (running.told_call code rest c) (declared.told_ended c (names_from n c.args) (declared.called form c.sub (s ++ map Int c.args) (names_from n c.args))) in
+        let called_so : SameTold names (running.told_call code rest c) (declared.told_ended c (names_from (length h) c.args) (declared.called m c.sub (s ++ map Int c.args) (names_from (length h) c.args))) =
+        rw (all_made c.args h (length h) [] names refl fits) (call_same c o vars f t0 999999 goes h s long none same c.args fits) in
+        let P : ℕ → Type 0 = λ n. SameTold names (running.told_call code rest c) (declared.told_ended c (names_from n c.args) (declared.called m c.sub (s ++ map Int c.args) (names_from n c.args))) in
         rw e (subst P same called_so)
 
     full_same : declared.may_make (length c.args) s ≡ false → SameCommand
@@ -152,7 +142,7 @@ module _ (code : Code) (m : Module) (x : Xsub) (p q : Param) (t u : Term) (ht : 
     by_room false e = full_same e
 
   -- both definitions tell the same of a command
-  pub command_same : (r : Mach World) (s : Store) (c : CallCommand) → AtRest names r s → SameTold names (running.told_call code r c) (declared.told_call form s c)
+  pub command_same : (r : Mach World) (s : Store) (c : CallCommand) → AtRest names r s → SameTold names (running.told_call code r c) (declared.told_call m s c)
   command_same r s c a =
-      let P : Mach World → Type 0 = λ y. SameTold names (running.told_call code y c) (declared.told_call form s c) in
+      let P : Mach World → Type 0 = λ y. SameTold names (running.told_call code y c) (declared.told_call m s c) in
       subst P (sym a.is) (by_room c a.how a.vars a.frame a.turns a.goes a.cells s a.long a.none a.same a.few (declared.may_make (length c.args) s) refl)

@@ -1,14 +1,15 @@
 -- Numbers of type `int`: what a conversion gives is in range, and a sum is in range or traps Overflow.
-use Rattle.std.proofs.Common.{◌≡◌, ℤ, pos, negsuc, ℕ, ◌-◌, ◌%◌, ◌<◌, ◌-ℤ◌, ◌≤ℤ◌, Bool, true, false, cond, ap, sym, ◌∙◌, subst, arith}
+use Rattle.std.proofs.Common.{◌≡◌, ℤ, pos, negsuc, ℕ, ◌-◌, ◌%◌, ◌<◌, ◌-ℤ◌, ◌≤ℤ◌, Bool, true, false, cond, refl, arith}
 use Rattle.std.proofs.lemmas.Bool.Decides.{nat_tests}
 use Rattle.std.proofs.lemmas.Int.{ints}
 use Rattle.std.specs.Int.RustNames.{int_le}
-use Rattle.std.specs.Prelude.{Result, Ok, Err}
+use Rattle.std.specs.Prelude.{◌+ℤ◌, Result, Ok, Err}
 use Rattle.xs_values.proofs.Wrapping.{wrapped_value-held}
 use Rattle.xs_values.specs.declared.kind.Kind.TheVariants.{I32, I64}
 use Rattle.xs_values.specs.declared.trap.Trap.{Trap}
 use Rattle.xs_values.specs.declared.trap.Trap.TheVariants.{Overflow}
-use Rattle.xs_values.specs.Numbers.{Number, IsInRange, is_held, wrapped_value}
+use Rattle.xs_values.specs.declared.operator.Op.TheVariants.{Add}
+use Rattle.xs_values.specs.Numbers.{Number, IsInRange, calculated, is_held, wrapped_value}
 
 residue_low : (r : ℕ) → r < 4294967296 → negsuc 2147483647 ≤ℤ cond (int_le (pos r) (pos 2147483647)) (pos r) (pos r -ℤ pos 4294967296)
 residue_low r h = grind (arith, ints, nat_tests)
@@ -33,10 +34,18 @@ held : (z : ℤ) → is_held I32 z ≡ true → IsInRange I32 z
 held (pos n) e = record { low = omega (arith, ints); high = grind (arith, ints, nat_tests) }
 held (negsuc n) e = record { low = grind (arith, ints, nat_tests); high = omega (arith, ints) }
 
--- what a sum of two numbers of type `int` is
-pub record IsIntOrOverflow (r : Result Number Trap) : Type 0 where
-  pub ok : (n : Number) → r ≡ Ok n → (n ≡ record { kind = I32; value = n.value }) × IsInRange I32 n.value
+-- a number of type `int`
+abbrev pub IsInt : Number → Type 0
+IsInt n = (n ≡ record { kind = I32; value = n.value }) × IsInRange I32 n.value
 
-pub settled_at : (z : ℤ) (b : Bool) → is_held I32 z ≡ b → IsIntOrOverflow (cond b (Ok (record { kind = I32; value = z })) (Err Overflow))
-settled_at z true e = record { ok = λ n q. let same : n ≡ record { kind = I32; value = z } = cc in let at : n.value ≡ z = ap (λ (x : Number). x.value) same in (same ∙ ap (λ v. record { kind = I32; value = v }) (sym at), subst (λ v. IsInRange I32 v) (sym at) (held z e)) }
-settled_at z false e = record { ok = λ n q. cc }
+-- what a sum of such numbers is
+abbrev pub IsIntOrTrap : Result Number Trap → Type 0
+IsIntOrTrap (Ok n) = IsInt n
+IsIntOrTrap (Err trap) = Unit {0}
+
+settled_at : (z : ℤ) (b : Bool) → is_held I32 z ≡ b → IsIntOrTrap (cond b (Ok (record { kind = I32; value = z })) (Err Overflow))
+settled_at z true e = (refl, held z e)
+settled_at z false e = tt
+
+pub sum_of_two : (x y : Number) → IsInt x → IsInt y → IsIntOrTrap (calculated Add x y)
+sum_of_two x y e g = rw (e.0, g.0) (settled_at (wrapped_value I32 x.value +ℤ wrapped_value I32 y.value) _ refl)

@@ -1,6 +1,6 @@
 -- Places in a list of cells and in a list of values.
-use Rattle.std.proofs.Common.{◌≡◌, ℕ, List, [], ◌∷◌, ◌++◌, length, refl, sym, ap, ◌∙◌}
-use Rattle.std.specs.Prelude.{slice_index_or, slice_set}
+use Rattle.std.proofs.Common.{◌≡◌, ℕ, ◌+◌, arith, List, [], ◌∷◌, ◌++◌, length, Some, refl, sym, ap, ◌∙◌, append_assoc, length-append}
+use Rattle.std.specs.Prelude.{slice_get, slice_index_or, slice_set}
 
 get_front : {X : Type 0} (h t : List X) (x d : X) → slice_index_or (h ++ x ∷ t) (length h) d ≡ x
 get_front [] t x d = refl
@@ -10,9 +10,29 @@ set_front : {X : Type 0} (h t : List X) (x v : X) → slice_set (h ++ x ∷ t) (
 set_front [] t x v = refl
 set_front (y ∷ h) t x v = ap (λ l. y ∷ l) (set_front h t x v)
 
+find_front : {X : Type 0} (h t : List X) (x : X) → slice_get (h ++ x ∷ t) (length h) ≡ Some x
+find_front [] t x = refl
+find_front (y ∷ h) t x = find_front h t x
+
 -- what stands behind so many
 pub get_at : {X : Type 0} (h t : List X) (x d : X) (n : ℕ) → length h ≡ n → slice_index_or (h ++ x ∷ t) n d ≡ x
 get_at h t x d n e = ap (λ k. slice_index_or (h ++ x ∷ t) k d) (sym e) ∙ get_front h t x d
 
 pub set_at : {X : Type 0} (h t : List X) (x v : X) (n : ℕ) → length h ≡ n → slice_set (h ++ x ∷ t) n v ≡ h ++ v ∷ t
 set_at h t x v n e = ap (λ k. slice_set (h ++ x ∷ t) k v) (sym e) ∙ set_front h t x v
+
+pub find_at : {X : Type 0} (h t : List X) (x : X) (n : ℕ) → length h ≡ n → slice_get (h ++ x ∷ t) n ≡ Some x
+find_at h t x n e = ap (slice_get (h ++ x ∷ t)) (sym e) ∙ find_front h t x
+
+pub one_longer : {X : Type 0} (h : List X) (x : X) (n : ℕ) → length h ≡ n → length (h ++ x ∷ []) ≡ n + 1
+one_longer h x n e = omega (arith, e, length-append h (x ∷ []))
+
+-- and what stands behind one more
+pub get_next : {X : Type 0} (h t : List X) (x y d : X) (n : ℕ) → length h ≡ n → slice_index_or (h ++ x ∷ y ∷ t) (n + 1) d ≡ y
+get_next h t x y d n e = ap (λ l. slice_index_or l (n + 1) d) (sym (append_assoc h (x ∷ []) (y ∷ t))) ∙ get_at (h ++ x ∷ []) t y d (n + 1) (one_longer h x n e)
+
+pub set_next : {X : Type 0} (h t : List X) (x y v : X) (n : ℕ) → length h ≡ n → slice_set (h ++ x ∷ y ∷ t) (n + 1) v ≡ h ++ x ∷ v ∷ t
+set_next h t x y v n e =
+    ap (λ l. slice_set l (n + 1) v) (sym (append_assoc h (x ∷ []) (y ∷ t)))
+    ∙ set_at (h ++ x ∷ []) t y v (n + 1) (one_longer h x n e)
+    ∙ append_assoc h (x ∷ []) (v ∷ t)

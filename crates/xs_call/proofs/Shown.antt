@@ -1,5 +1,5 @@
 -- The lines that show arguments and items are the same where the cells and the store hold the same values.
-use Rattle.std.proofs.Common.{◌≡◌, ℕ, ℤ, ◌+◌, arith, List, [], ◌∷◌, ◌++◌, map, length, None, refl, sym, ap, ◌∙◌, append_assoc, append-nil, length-append}
+use Rattle.std.proofs.Common.{◌≡◌, ℕ, ℤ, ◌+◌, List, [], ◌∷◌, ◌++◌, map, length, None, refl, sym, ap, ◌∙◌, append_assoc, append-nil}
 use Rattle.xs_machine.specs.World.{Cells}
 use Rattle.xs_values.specs.declared.plain.Plain.TheVariants.{Undef, Int}
 use Rattle.xs_call.specs.Meaning.{Store, names_from, show_in}
@@ -7,7 +7,7 @@ use Rattle.xs_call.specs.Running.{cell_text, show_cell}
 use Rattle.xs_call.specs.Transcript.{arg_line, arg_lines, item_line}
 use Rattle.xs_script.specs.ValueText.{value_text_of}
 use Rattle.xs_call.proofs.Bodies.{holds}
-use Rattle.xs_call.proofs.Scalars.{get_at}
+use Rattle.xs_call.proofs.Scalars.{get_at, one_longer}
 use Rattle.xs_call.proofs.Temporaries.{made}
 
 arg_line-same : (f g : ℕ → List ℕ) (place name : ℕ) → f name ≡ g name → arg_line f place name ≡ arg_line g place name
@@ -21,9 +21,6 @@ item_line-same f g args place name e = rw e refl
 -- a scalar that holds a number on both sides
 pub shown_same : (h t : Cells) (s u : Store) (z : ℤ) (n : ℕ) → length h ≡ n → length s ≡ n → show_cell (h ++ holds z ∷ t) n ≡ show_in (s ++ Int z ∷ u) n
 shown_same h t s u z n e g = ap cell_text (get_at h t (holds z) None n e) ∙ sym (ap value_text_of (get_at s u (Int z) Undef n g))
-
-one_longer : {X : Type 0} (h : List X) (x : X) (n : ℕ) → length h ≡ n → length (h ++ x ∷ []) ≡ n + 1
-one_longer h x n e = omega (arith, e, length-append h (x ∷ []))
 
 pub arg_lines-same : (zs : List ℤ) (h t : Cells) (s u : Store) (n place : ℕ) → length h ≡ n → length s ≡ n → arg_lines (show_cell (h ++ (made zs ++ t))) place (names_from n zs) ≡ arg_lines (show_in (s ++ (map Int zs ++ u))) place (names_from n zs)
 arg_lines-same [] h t s u n place e g = refl

@@ -1,16 +1,16 @@
 -- The arguments of a call are made, each a temporary; the end of the temporaries frees them all.
-use Rattle.std.proofs.Common.{◌≡◌, ℕ, suc, ℤ, ◌+◌, ◌-◌, ◌<◌, ◌≤◌, arith, Bool, true, false, cond, List, [], ◌∷◌, ◌++◌, length, drop, Option, Some, None, refl, sym, ap, ◌∙◌, append_assoc, append-nil, length-append}
+use Rattle.std.proofs.Common.{◌≡◌, ℕ, suc, ℤ, ◌+◌, ◌-◌, ◌<◌, ◌≤◌, arith, Bool, true, false, cond, List, [], ◌∷◌, ◌++◌, length, drop, Some, None, refl, sym, ap, ◌∙◌, append_assoc, append-nil}
 use Rattle.std.proofs.lemmas.Bool.Decides.{nat_tests}
 use Rattle.std.proofs.lemmas.List.{drop-append-le}
 use Rattle.xs_machine.specs.declared.api.Registered.{Registered}
-use Rattle.xs_machine.specs.declared.heap.Cell.{Cell}
 use Rattle.xs_machine.specs.Machine.{runner_depths}
 use Rattle.xs_machine.specs.World.{Cells, World, Swept, Clean, Dirty, free_newest, is_read_only, is_uncounted, live_of, living, lower, may_make, sweep, then_swept, with_temps}
 use Rattle.xs_values.specs.declared.trap.Trap.TheVariants.{Large}
 use Rattle.xs_call.specs.Meaning.{names_from}
 use Rattle.xs_call.specs.Running.{Made, AllMade, NotMade, args_made, with_name}
-use Rattle.xs_call.proofs.Bodies.{world, holds}
-use Rattle.xs_call.proofs.Scalars.{get_at, set_at}
+use Rattle.xs_call.proofs.Bodies.{holds}
+use Rattle.xs_call.proofs.Scalars.{get_at, one_longer, set_at}
+use Rattle.xs_call.proofs.Statements.{world}
 
 -- the cells of arguments, and the same cells once they are gone
 abbrev pub made : List ℤ → Cells
@@ -30,12 +30,6 @@ newest n (z ∷ zs) temps = newest (n + 1) zs (n ∷ temps)
 
 room : (cells : Cells) (n : ℕ) → length cells ≡ n → n < 4000005 → may_make cells ≡ true
 room cells n e h = grind (arith, nat_tests)
-
-no_room : (cells : Cells) (n : ℕ) → length cells ≡ n → 4000005 ≤ n → may_make cells ≡ false
-no_room cells n e h = grind (arith, nat_tests)
-
-one_longer : (cells : Cells) (c : Option Cell) (n : ℕ) → length cells ≡ n → length (cells ++ c ∷ []) ≡ n + 1
-one_longer cells c n e = omega (arith, e, length-append cells (c ∷ []))
 
 -- all arguments are made
 pub all_made : (zs : List ℤ) (cells : Cells) (n : ℕ) (temps : List ℕ) (names : List Registered) → length cells ≡ n → n + length zs ≤ 4000005 → args_made zs (world cells [] 0 [] temps names) ≡ AllMade (names_from n zs) (world (cells ++ made zs) [] 0 [] (newest n zs temps) names)

@@ -1,99 +1,115 @@
 -- The boot, and all commands: the two transcripts are one.
-use Rattle.std.proofs.Common.{◌≡◌, ℕ, arith, List, [], ◌∷◌, ◌++◌, Option, Some, None, refl, sym, ap, subst, ◌∙◌, append_assoc}
-use Rattle.std.specs.Prelude.{codes}
+use Rattle.std.proofs.Common.{◌≡◌, ℕ, ◌+◌, arith, List, [], ◌∷◌, ◌++◌, length, Option, Some, None, refl, sym, ap, subst, ◌∙◌, append_assoc}
+use Rattle.std.specs.Prelude.{codes, slice_get}
 use Rattle.xs_machine.proofs.Ends.{run_over}
+use Rattle.xs_machine.specs.declared.api.Abrupt.TheVariants.{Returns}
+use Rattle.xs_machine.specs.declared.api.Registered.{Registered}
 use Rattle.xs_machine.specs.declared.machine.Outcome.TheVariants as outcome
-use Rattle.xs_machine.specs.Machine.{Mach, Enter, Leave, boot_at, boot_begun, booted, call_meaning, call_over, function_at, run, run_on, with_call}
+use Rattle.xs_machine.specs.Cmean.{meaning_all}
+use Rattle.xs_ccheck.specs.Functions.{boot_at, function_at}
+use Rattle.xs_machine.specs.Machine.{Mach, Enter, Leave, boot_begun, booted, call_meaning, call_over, loaded, new_world, run, run_on, with_call}
 use Rattle.xs_machine.specs.Rows.{counted_rows}
-use Rattle.xs_machine.specs.Tree.{Code}
+use Rattle.xs_machine.specs.State.{State, Stop}
+use Rattle.xs_ccheck.specs.Tree.{Code}
 use Rattle.xs_machine.specs.World.{World, depths_of, new_cells}
 use Rattle.xs_iface.specs.declared.xsub.Module.{Module}
-use Rattle.xs_iface.specs.declared.xsub.Param.{Param}
-use Rattle.xs_iface.specs.declared.xsub.Term.{Term}
 use Rattle.xs_iface.specs.declared.xsub.Xsub.{Xsub}
+use Rattle.xs_iface.specs.SumForm.{IsSumModule}
 use Rattle.xs_call.specs.declared.calls.CallCommand.{CallCommand}
 use Rattle.xs_call.specs.declared.running.TheConstants.{TURNS}
-use Rattle.xs_call.specs.GlueCode.{boot_function, glue_code, xsub_function}
-use Rattle.xs_call.specs.Headline.{ExactAfter, IsExact, IsFirstForm, IsTermOfTwo, RunsAsDeclared, StaysExact, booted_told, exact_along, exact_behind, new_machine, new_world}
+use Rattle.xs_call.specs.GlueCode.{boot_function, functions_on, glue_code, registrations, trees_of}
+use Rattle.xs_call.specs.Headline.{ExactAfter, IsExact, RunsAsDeclared, StaysExact, booted_told, exact_along, exact_behind}
 use Rattle.xs_call.specs.Meaning as declared
 use Rattle.xs_call.specs.Meaning.{Store, declared_transcript, new_store}
 use Rattle.xs_call.specs.Running as running
 use Rattle.xs_call.specs.Running.{boot_told, end_of, machine_transcript}
 use Rattle.xs_call.specs.Transcript.{live_line}
-use Rattle.xs_call.proofs.Bodies.{formed, frame, world}
 use Rattle.xs_call.proofs.Calling.{resting}
-use Rattle.xs_call.proofs.Commands.{AtRest, SameTold, SameNext}
-use Rattle.xs_call.proofs.Every.{command_same}
-use Rattle.xs_call.proofs.Pairs.{formed_module, registered_names}
-use Rattle.xs_call.proofs.Statements.{state}
+use Rattle.xs_call.proofs.Commands.{AtRest, SameNext}
+use Rattle.xs_call.proofs.Every.{command_same, registered_names}
+use Rattle.xs_call.proofs.Named.{boot_place, last_function, registered_on}
+use Rattle.xs_call.proofs.Statements.{state, world, frame}
 
--- what goes on behind a command
-goes_on : (x : Xsub) (a : Option (Mach World)) (b : Option Store) (f : Mach World → List ℕ) (g : Store → List ℕ) → SameNext (registered_names x) a b → ((r : Mach World) (s : Store) → AtRest (registered_names x) r s → f r ≡ g s) → running.go_on a f ≡ declared.go_on b g
-goes_on x None None f g n h = refl
-goes_on x (Some r) (Some s) f g n h = h r s n
-goes_on x None (Some s) f g n h = absurd n
-goes_on x (Some r) None f g n h = absurd n
+module _ (names : List Registered) where
+  -- what goes on behind a command
+  goes_on : (a : Option (Mach World)) (b : Option Store) (f : Mach World → List ℕ) (g : Store → List ℕ) → SameNext names a b → ((r : Mach World) (s : Store) → AtRest names r s → f r ≡ g s) → running.go_on a f ≡ declared.go_on b g
+  goes_on None None f g n h = refl
+  goes_on (Some r) (Some s) f g n h = h r s n
+  goes_on None (Some s) f g n h = absurd n
+  goes_on (Some r) None f g n h = absurd n
 
--- the machine at rest is exact
-exact : (x : Xsub) (r : Mach World) (s : Store) → AtRest (registered_names x) r s → IsExact r s
-exact x r s a =
-    let P : Mach World → Type 0 = λ y. IsExact y s in
-    subst P (sym a.is) (record { no_work = refl; no_arguments = refl; at_bottom = refl; no_marks = refl; no_temporaries = refl; no_scopes = refl; none_lives = a.none; same_next = a.same })
+  -- the machine at rest is exact
+  exact : (r : Mach World) (s : Store) → AtRest names r s → IsExact r s
+  exact r s a =
+      let P : Mach World → Type 0 = λ y. IsExact y s in
+      subst P (sym a.is) (record { no_work = refl; no_arguments = refl; at_bottom = refl; no_marks = refl; no_temporaries = refl; no_scopes = refl; none_lives = a.none; same_next = a.same })
 
-stays_exact : (x : Xsub) (a : Option (Mach World)) (b : Option Store) (after : Mach World → Store → Type 0) → SameNext (registered_names x) a b → ((r : Mach World) (s : Store) → AtRest (registered_names x) r s → after r s) → exact_behind a b after
-stays_exact x None None after n h = tt
-stays_exact x (Some r) (Some s) after n h = (exact x r s n, h r s n)
-stays_exact x None (Some s) after n h = absurd n
-stays_exact x (Some r) None after n h = absurd n
+  stays_exact : (a : Option (Mach World)) (b : Option Store) (after : Mach World → Store → Type 0) → SameNext names a b → ((r : Mach World) (s : Store) → AtRest names r s → after r s) → exact_behind a b after
+  stays_exact None None after n h = tt
+  stays_exact (Some r) (Some s) after n h = (exact r s n, h r s n)
+  stays_exact None (Some s) after n h = absurd n
+  stays_exact (Some r) None after n h = absurd n
 
--- what is needed of resolved glue: its boot function, and the function of its XSUB
-pub record IsGlueOf (code : Code) (m : Module) (x : Xsub) : Type 0 where
-  pub boot : boot_at code ≡ Some 1
-  pub boot_is : function_at code (Some 1) ≡ Some (boot_function m)
-  pub xsub_is : function_at code (Some 0) ≡ Some (xsub_function x)
+-- The registrations of a boot function, from this function on: each name is registered, and yes is returned.
+registers : (n : ℕ) (xs : List Xsub) (names : List Registered) (called : List ℕ) (turns : ℕ)
+    → meaning_all counted_rows (trees_of (registrations n xs)) (state [] (frame called 0) (world new_cells [] 0 [] [] names) turns)
+    ≡ Stop (Returns (2 ∷ [])) (state [] (frame called 0) (world new_cells (2 ∷ []) 1 [] [] (registered_on n xs names)) turns)
+registers n [] names called turns = refl
+registers n (x ∷ xs) names called turns = registers (n + 1) xs (record { name = x.full; function = n } ∷ names) called turns
 
-module _ (code : Code) (m : Module) (x : Xsub) (p q : Param) (t u : Term) (ht : IsTermOfTwo t) (hu : IsTermOfTwo u) (glue : IsGlueOf code (formed_module m x p q t u) (formed x p q t u)) where
-  abbrev form : Module
-  form = formed_module m x p q t u
+module _ (code : Code) (m : Module) (good : IsSumModule m) (glue : code.functions ≡ functions_on (boot_function m) m.xsubs) where
+  abbrev names : List Registered
+  names = registered_names m
 
-  one_same : (r : Mach World) (s : Store) (c : CallCommand) → AtRest (registered_names x) r s → SameTold (registered_names x) (running.told_call code r c) (declared.told_call form s c)
-  one_same = command_same code m x p q t u ht hu glue.xsub_is
-
-  calls_same : (cs : List CallCommand) (r : Mach World) (s : Store) → AtRest (registered_names x) r s → running.calls_told code r cs ≡ declared.calls_told form s cs
+  calls_same : (cs : List CallCommand) (r : Mach World) (s : Store) → AtRest names r s → running.calls_told code r cs ≡ declared.calls_told m s cs
   calls_same [] r s a = refl
   calls_same (c ∷ cs) r s a =
-      let one = one_same r s c a in
+      let one = command_same code m good glue r s c a in
       ap (λ l. l ++ running.go_on (running.told_call code r c).next (λ next. running.calls_told code next cs)) one.text
-      ∙ ap (λ l. (declared.told_call form s c).text ++ l) (goes_on x (running.told_call code r c).next (declared.told_call form s c).next (λ next. running.calls_told code next cs) (λ next. declared.calls_told form next cs) one.next (calls_same cs))
+      ∙ ap (λ l. (declared.told_call m s c).text ++ l) (goes_on names (running.told_call code r c).next (declared.told_call m s c).next (λ next. running.calls_told code next cs) (λ next. declared.calls_told m next cs) one.next (calls_same cs))
 
-  calls_exact : (cs : List CallCommand) (r : Mach World) (s : Store) → AtRest (registered_names x) r s → exact_along form code r s cs
+  calls_exact : (cs : List CallCommand) (r : Mach World) (s : Store) → AtRest names r s → exact_along m code r s cs
   calls_exact [] r s a = tt
   calls_exact (c ∷ cs) r s a =
-      stays_exact x (running.told_call code r c).next (declared.told_call form s c).next (λ machine1 store1. exact_along form code machine1 store1 cs) (one_same r s c a).next (calls_exact cs)
+      stays_exact names (running.told_call code r c).next (declared.told_call m s c).next (λ machine1 store1. exact_along m code machine1 store1 cs) (command_same code m good glue r s c a).next (calls_exact cs)
 
   -- ---- the boot
 
-  abbrev boot_name : List ℕ
-  boot_name = (boot_function form).name
+  abbrev boot : ℕ
+  boot = length m.xsubs
 
-  boot_over : booted code TURNS new_machine ≡ call_over counted_rows code (depths_of new_world) (call_meaning counted_rows code (function_at code (Some 1)) (state [] (frame boot_name 0) (with_call [] new_world) TURNS))
+  boot_at_end : boot_at code ≡ Some boot
+  boot_at_end =
+      let front : 0 + length m.xsubs ≡ length m.xsubs = omega arith in
+      ap (λ fs. boot_at (record { functions = fs })) glue ∙ boot_place (boot_function m) 0 m.xsubs refl ∙ ap Some front
+
+  boot_is : function_at code (Some boot) ≡ Some (boot_function m)
+  boot_is = ap (λ fs. slice_get fs boot) glue ∙ last_function (boot_function m) m.xsubs
+
+  abbrev boot_name : List ℕ
+  boot_name = (boot_function m).name
+
+  abbrev boot_state : State World
+  boot_state = state [] (frame boot_name 0) (with_call [] new_world) TURNS
+
+  boot_over : booted code TURNS loaded ≡ call_over counted_rows code (depths_of new_world) (call_meaning counted_rows code (function_at code (Some boot)) boot_state)
   boot_over =
-      let begins : boot_begun code TURNS new_machine ≡ run_on (Enter (Some 1) ∷ Leave (depths_of new_world) ∷ []) [] (state [] (frame boot_name 0) (with_call [] new_world) TURNS) = rw (glue.boot, glue.boot_is) refl in
-      ap (run code) begins ∙ run_over counted_rows code (Some 1) (depths_of new_world) (state [] (frame boot_name 0) (with_call [] new_world) TURNS)
+      let begins : boot_begun code TURNS loaded ≡ run_on (Enter (Some boot) ∷ Leave (depths_of new_world) ∷ []) [] boot_state = rw (boot_at_end, boot_is) refl in
+      ap (run code) begins ∙ run_over counted_rows code (Some boot) (depths_of new_world) boot_state
 
   abbrev boot_end : Mach World
-  boot_end = resting (outcome.Returned (2 ∷ [])) [] (frame boot_name 0) (world new_cells (2 ∷ []) 1 [] [] (registered_names x)) 999999
+  boot_end = resting (outcome.Returned (2 ∷ [])) [] (frame boot_name 0) (world new_cells (2 ∷ []) 1 [] [] names) 999999
 
-  boot_ends : booted code TURNS new_machine ≡ boot_end
-  boot_ends = boot_over ∙ rw glue.boot_is refl
+  boot_ends : booted code TURNS loaded ≡ boot_end
+  boot_ends = boot_over ∙ rw (boot_is, registers 0 m.xsubs [] boot_name 999999) refl
 
   abbrev boot_rest : Mach World
-  boot_rest = resting (outcome.Returned (2 ∷ [])) [] (frame boot_name 0) (world new_cells [] 0 [] [] (registered_names x)) 999999
+  boot_rest = resting (outcome.Returned (2 ∷ [])) [] (frame boot_name 0) (world new_cells [] 0 [] [] names) 999999
 
   boot_tells : booted_told code ≡ record { text = codes "boot returned\n" ++ live_line 0 0 0; next = Some boot_rest }
   boot_tells = ap (λ (r : Mach World). boot_told (end_of r.stopped) r) boot_ends
 
-  at_rest : AtRest (registered_names x) boot_rest new_store
+  at_rest : AtRest names boot_rest new_store
   at_rest = record {
     how = outcome.Returned (2 ∷ []);
     vars = [];
@@ -108,43 +124,28 @@ module _ (code : Code) (m : Module) (x : Xsub) (p q : Param) (t u : Term) (ht : 
     few = omega arith;
   }
 
-  pub transcripts_same : (cs : List CallCommand) → machine_transcript code new_machine cs ≡ declared_transcript form cs
+  pub transcripts_same : (cs : List CallCommand) → machine_transcript code loaded cs ≡ declared_transcript m cs
   unfolding machine_transcript declared_transcript
   transcripts_same cs =
       ap (λ b. running.transcript_behind code b cs) boot_tells
       ∙ append_assoc (codes "boot returned\n") (live_line 0 0 0) (running.calls_told code boot_rest cs)
       ∙ ap (λ l. codes "boot returned\n" ++ (live_line 0 0 0 ++ l)) (calls_same cs boot_rest new_store at_rest)
 
-  pub exact_same : (cs : List CallCommand) → ExactAfter form code cs
+  pub exact_same : (cs : List CallCommand) → ExactAfter m code cs
   unfolding ExactAfter
   exact_same cs =
-      let P : running.Told → Type 0 = λ b. exact_behind b.next (Some new_store) (λ machine store. exact_along form code machine store cs) in
-      subst P (sym boot_tells) (exact x boot_rest new_store at_rest, calls_exact cs boot_rest new_store at_rest)
+      let P : running.Told → Type 0 = λ b. exact_behind b.next (Some new_store) (λ machine store. exact_along m code machine store cs) in
+      subst P (sym boot_tells) (exact names boot_rest new_store at_rest, calls_exact cs boot_rest new_store at_rest)
 
--- ---- a module of the form
+-- ---- the laws
 
-xsub_is : (x : Xsub) (p q : Param) (t u : Term) → x.params ≡ p ∷ q ∷ [] → x.sum ≡ t ∷ u ∷ [] → x ≡ formed x p q t u
-xsub_is x p q t u params sum =
-    let X : List Param → List Term → Xsub = λ ps ts. record { line = x.line; full = x.full; c_name = x.c_name; glue = x.glue; params = ps; code_line = x.code_line; indent = x.indent; sum = ts; output_line = x.output_line } in
-    ap (λ ps. X ps x.sum) params ∙ ap (X (p ∷ q ∷ [])) sum
-
-pub module_is : (m : Module) (f : IsFirstForm m) → m ≡ formed_module m f.xsub f.first f.second f.left f.right
-module_is m f =
-    let M : List Xsub → Module = λ xs. record { boot = m.boot; boot_line = m.boot_line; xsubs = xs } in
-    ap M f.one_xsub ∙ ap (λ x. M (x ∷ [])) (xsub_is f.xsub f.first f.second f.left f.right f.two_params f.two_terms)
-
-pub glue_is : (m : Module) (x : Xsub) (p q : Param) (t u : Term) → IsGlueOf (glue_code (formed_module m x p q t u)) (formed_module m x p q t u) (formed x p q t u)
+-- the functions of a module's glue
+glue_functions : (m : Module) → (glue_code m).functions ≡ functions_on (boot_function m) m.xsubs
 unfolding glue_code
-glue_is m x p q t u = record { boot = refl; boot_is = refl; xsub_is = refl }
+glue_functions m = refl
 
 pub runs_as_declared : RunsAsDeclared
-runs_as_declared m f cs =
-    let P : Module → Type 0 = λ y. machine_transcript (glue_code y) new_machine cs ≡ declared_transcript y cs in
-    let form : Module = formed_module m f.xsub f.first f.second f.left f.right in
-    subst P (sym (module_is m f)) (transcripts_same (glue_code form) m f.xsub f.first f.second f.left f.right f.left_known f.right_known (glue_is m f.xsub f.first f.second f.left f.right) cs)
+runs_as_declared m good cs = transcripts_same (glue_code m) m good (glue_functions m) cs
 
 pub stays_exact_after : StaysExact
-stays_exact_after m f cs =
-    let P : Module → Type 0 = λ y. ExactAfter y (glue_code y) cs in
-    let form : Module = formed_module m f.xsub f.first f.second f.left f.right in
-    subst P (sym (module_is m f)) (exact_same (glue_code form) m f.xsub f.first f.second f.left f.right f.left_known f.right_known (glue_is m f.xsub f.first f.second f.left f.right) cs)
+stays_exact_after m good cs = exact_same (glue_code m) m good (glue_functions m) cs

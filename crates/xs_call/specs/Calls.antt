@@ -5,7 +5,7 @@ use Rattle.xs_base.specs.Reading.{◌>>=◌}
 use Rattle.xs_base.specs.declared.fault.Fault.{Fault}
 use Rattle.xs_base.specs.declared.place.FileOf.TheVariants.{Script}
 use Rattle.xs_call.specs.declared.calls.CallCommand.{CallCommand}
-use Rattle.xs_iface.specs.declared.first_form.TheConstants.{NOT_BUILT}
+use Rattle.xs_iface.specs.declared.drafts.TheConstants.{NOT_BUILT}
 use Rattle.xs_script.specs.Expr.{Expr, Num, Said, My, MyCall, Ro, CallSub, Show, Drop, Isa, Sub}
 use Rattle.xs_script.specs.declared.command.Number.TheVariants.{Int}
 

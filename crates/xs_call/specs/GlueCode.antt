@@ -6,8 +6,8 @@ use Rattle.xs_iface.specs.declared.xsub.Param.{Param}
 use Rattle.xs_iface.specs.declared.xsub.Term.{Term}
 use Rattle.xs_iface.specs.declared.xsub.Term.TheVariants as term
 use Rattle.xs_iface.specs.declared.xsub.Xsub.{Xsub}
-use Rattle.xs_machine.specs.declared.ccheck.ValueType.TheVariants.{Number, Scalar}
-use Rattle.xs_machine.specs.Tree.{Row, Entry, StRead, SvIv, SvNewMortal, SvSetIv, StSet, XsReturn, XsReturnYes, CroakUsage, NewXs, Tree, Literal, Variable, ItemCount, Assign, Binary, Convert, ApiRow, Block, If, Forget, Declare, Trees, NoTrees, MoreTrees, Function, Code}
+use Rattle.xs_ccheck.specs.declared.code.ValueType.TheVariants.{Number, Scalar}
+use Rattle.xs_ccheck.specs.Tree.{Row, Entry, StRead, SvIv, SvNewMortal, SvSetIv, StSet, XsReturn, XsReturnYes, CroakUsage, NewXs, Tree, Literal, Variable, ItemCount, Assign, Binary, Convert, ApiRow, Block, If, Forget, Declare, Trees, NoTrees, MoreTrees, Function, Code}
 use Rattle.xs_stub.specs.Stub.{joined_names}
 use Rattle.xs_values.specs.declared.kind.Kind.TheVariants.{I32, I64}
 use Rattle.xs_values.specs.declared.operator.Op.TheVariants.{Add, NotEqual}

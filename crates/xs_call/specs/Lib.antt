@@ -5,4 +5,6 @@ pub mod Running
 pub mod Runs
 pub mod GlueCode
 pub mod Headline
+pub mod Built
+pub mod Resolved
 pub mod Job

@@ -8,8 +8,8 @@ use Rattle.xs_machine.specs.declared.machine.Outcome.{Outcome}
 use Rattle.xs_machine.specs.declared.machine.Outcome.TheVariants as outcome
 use Rattle.xs_machine.specs.Machine.{Mach, booted, called, settled}
 use Rattle.xs_machine.specs.Rows.{with_temp}
-use Rattle.xs_machine.specs.State.{with_store}
-use Rattle.xs_machine.specs.Tree.{Code}
+use Rattle.xs_ccheck.specs.Tree.{Code}
+use Rattle.xs_machine.specs.Views.{with_world}
 use Rattle.xs_machine.specs.World.{Cells, World, cell_at, live_of, may_make, with_cells, with_new}
 use Rattle.xs_script.specs.ValueText.{value_text_of}
 use Rattle.xs_values.specs.declared.plain.Plain.TheVariants.{Int}
@@ -77,10 +77,6 @@ told_end head args (Returned items) m = in_front (head ++ end_lines (show_cell m
 told_end head args (Croaked text) m = in_front (head ++ end_lines (show_cell m.state.store.cells) args (Croaked text)) (settled_told m)
 told_end head args (Trapped trap) m = record { text = head ++ end_lines (show_cell m.state.store.cells) args (Trapped trap); next = None }
 told_end head args Spent m = record { text = head ++ end_lines (show_cell m.state.store.cells) args Spent; next = None }
-
--- the machine with another world
-abbrev pub with_world : World → Mach World → Mach World
-with_world w m = record { pending = m.pending; operands = m.operands; state = with_store w m.state; stopped = m.stopped }
 
 abbrev pub told_call_with : Code → CallCommand → Mach World → Made → Told
 told_call_with code c m (AllMade names w) =

@@ -1,8 +1,9 @@
 -- What the runner's functions owe to the definition of the transcript.
 use Rattle.std.specs.Prelude.{◌≡◌, ℤ, ℕ, List, None, Some, Result, Ok, Err, if◌then◌else◌}
-use Rattle.xs_call.specs.Running.{AllMade, NotMade, Told, args_made, with_world}
+use Rattle.xs_call.specs.Running.{AllMade, NotMade, Told, args_made}
 use Rattle.xs_call.specs.declared.running.Telling.{Telling}
 use Rattle.xs_machine.specs.Machine.{Mach}
+use Rattle.xs_machine.specs.Views.{with_world}
 use Rattle.xs_machine.specs.World.{World}
 use Rattle.xs_machine.specs.declared.api.Stop.{Stop}
 use Rattle.xs_machine.specs.declared.api.Stop.TheVariants as stop

@@ -1,18 +1,66 @@
-//! The job of `call`.
-ghost use Rattle.std.specs.Prelude.{◌≡◌, ◌-◌, ◌^◌, ◌<◌, length};
+//! The jobs of `check`, `compile` and `call`.
+ghost use Rattle.std.specs.Prelude.{◌-◌, ◌^◌, ◌<◌, IfOk, Ok, length};
 ghost use Rattle.xs_base.specs.Reading.{Gives};
-ghost use Rattle.xs_call.specs.Job.{call_of, text_transcript};
+ghost use Rattle.xs_call.specs.Job.{call_of, check_of, compile_of, module_in, text_transcript};
 ghost use Rattle.xs_stub.specs.Stub.{glue_text};
 
+use crate::built::expect_built;
 use crate::calls::{CallCommand, plain_calls};
 use crate::running::transcript;
 use std::alloc::Global;
 use xs_base::{Bytes, FileOf, Refuse};
+use xs_ccheck::check_file;
 use xs_csyn::read_file;
 use xs_iface::{Module, read_module};
-use xs_machine::{Machine, check_file};
+use xs_machine::Machine;
 use xs_script::read_script;
+use xs_sections::split;
 use xs_stub::write_glue;
+
+// The module of an XS file, or the first fault of the file.
+#[tactic(auto, unfolding(crate::specs::Job::module_in))]
+fn module_in(alloc: Global, xs: &Bytes) -> Result<Module, Refuse>
+    requires { length xs.now < 2 ^ 32 - 1 }
+    ensures { Gives result (module_in xs.now) }
+{
+    let sections = split(alloc, xs)?;
+    expect_built(alloc, &sections)?;
+    let m = read_module(alloc, &sections)?;
+    Ok(m)
+}
+
+/// Whether an XS file is taken: its first fault comes where it is not.
+#[tactic(auto, unfolding(crate::specs::Job::check_of))]
+pub fn check(alloc: Global, xs: &Bytes) -> Result<(), Refuse>
+    requires { length xs.now < 2 ^ 32 - 1 }
+    ensures { Gives result (check_of xs.now) }
+{
+    let _module = module_in(alloc, xs)?;
+    Ok(())
+}
+
+/// The glue text of an XS file: the C by which Perl calls its XSUBs. The first fault of the file comes where it has one.
+#[tactic(auto, unfolding(crate::specs::Job::compile_of))]
+pub fn compile(alloc: Global, xs: &Bytes) -> Result<Bytes, Refuse>
+    requires { length xs.now < 2 ^ 32 - 1 }
+    ensures { Gives result (compile_of xs.now) }
+{
+    let m = module_in(alloc, xs)?;
+    let text = glue_of(alloc, &m)?;
+    Ok(text)
+}
+
+// The glue text of a module. No text is made that a reader of ours does not take for its length.
+fn glue_of(alloc: Global, m: &Module) -> Result<Bytes, Refuse>
+    ensures text { Gives result (Ok (glue_text m.now)) }
+    ensures short { IfOk result (λ text. length text < 2 ^ 32 - 1) }
+{
+    let text = write_glue(alloc, m)?;
+    if text.len() >= u32::MAX as usize {
+        return Err(Refuse::Memory);
+    }
+    Ok(text)
+}
 
 /// The transcript of a script's calls of the XSUBs of an XS file. The glue text is written, read back, and run by the machine;
 /// what comes of it is the declared meaning of the calls.
@@ -24,7 +72,7 @@ pub fn call(alloc: Global, xs: &Bytes, script: &Bytes) -> Result<Bytes, Refuse>
     requires script { length script.now < 2 ^ 32 - 1 }
     ensures { Gives result (call_of xs.now script.now) }
 {
-    let m = read_module(alloc, xs)?;
+    let m = module_in(alloc, xs)?;
     let commands = read_script(alloc, script)?;
     let calls = plain_calls(alloc, commands.as_slice())?;
     let told = run_glue(alloc, &m, calls.as_slice())?;
@@ -35,10 +83,7 @@ pub fn call(alloc: Global, xs: &Bytes, script: &Bytes) -> Result<Bytes, Refuse>
 fn run_glue(alloc: Global, m: &Module, calls: &[CallCommand]) -> Result<Bytes, Refuse>
     ensures { Gives result (text_transcript (glue_text m.now) calls.now) }
 {
-    let text = write_glue(alloc, m)?;
-    if text.len() >= u32::MAX as usize {
-        return Err(Refuse::Memory);
-    }
+    let text = glue_of(alloc, m)?;
     let told = run_text(alloc, &text, calls)?;
     Ok(told)
 }

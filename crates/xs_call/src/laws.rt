@@ -1,9 +1,10 @@
 //! Laws of the definitions, for all modules and scripts.
 
-ghost use Rattle.xs_call.specs.Job.{EachTextLeavesNothing, EachTextRunsAsDeclared};
-ghost use Rattle.xs_call.specs.Headline.{EachFileIsOfForm, RunsAsDeclared, StaysExact};
+ghost use Rattle.xs_call.specs.Job.{EachFileGivesSums, EachTextLeavesNothing, EachTextRunsAsDeclared};
+ghost use Rattle.xs_call.specs.Headline.{RunsAsDeclared, StaysExact};
+ghost use Rattle.xs_call.specs.Resolved.{TextResolves};
 
-/// The resolved trees of the glue of a module of the first form, run by the counted machine on any script, give the transcript that
+/// The resolved trees of the glue of a module whose XSUBs are sums, run by the counted machine on any script, give the transcript that
 /// the module's interface declares. Behind the boot and behind each command that goes on no counted scalar, no temporary, no mark and
 /// no scope is left, and the next scalar has the name that the declared store gives next.
 #[tactic(auto, using(crate::proofs::Whole::runs_as_declared, crate::proofs::Whole::stays_exact_after))]
@@ -12,10 +13,9 @@ pub fn glue_runs_as_declared()
     ensures exact { StaysExact }
 {}
 
-/// Each XS file that is read gives a module of the first form, so the law above holds of it.
-#[tactic(auto, using(crate::proofs::Reading::each_file))]
-pub fn files_are_of_form()
-    ensures { EachFileIsOfForm }
+/// Each XS file that is read gives a module whose XSUBs are sums, so the law above holds of it.
+pub fn files_give_sums()
+    ensures { EachFileGivesSums }
 {}
 
 /// The C text that is written for an XS file, read and run, tells what the file declares: for each XS file that is read, and each script
@@ -24,4 +24,10 @@ pub fn files_are_of_form()
 pub fn written_text_runs_as_declared()
     ensures transcript { EachTextRunsAsDeclared }
     ensures exact { EachTextLeavesNothing }
+{}
+
+/// A tree that is the intended one but for lines has the resolved trees of the glue.
+#[tactic(auto, using(crate::proofs::Typed::text_typed))]
+pub fn written_text_resolves()
+    ensures { TextResolves }
 {}

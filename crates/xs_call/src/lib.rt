@@ -1,6 +1,7 @@
 //! The calls that the program makes.
 #![tactic(auto)]
 
+mod built;
 mod calls;
 mod job;
 mod laws;
@@ -8,6 +9,8 @@ mod lines;
 mod running;
 
 pub use calls::{CallCommand, plain_calls};
-pub use job::call;
-pub use laws::{files_are_of_form, glue_runs_as_declared, written_text_runs_as_declared};
+pub use job::{call, check, compile};
+pub use laws::{
+    files_give_sums, glue_runs_as_declared, written_text_resolves, written_text_runs_as_declared,
+};
 pub use running::TURNS;

@@ -14,7 +14,7 @@ use Rattle.xs_csyn.specs.declared.tree.CType.{CType}
 use Rattle.xs_csyn.specs.declared.tree.PerlForm.TheVariants as form
 use Rattle.xs_values.specs.declared.model.DataModel.TheVariants as model
 use Rattle.xs_csyn.specs.Tree as t
-use Rattle.xs_csyn.specs.Tree.{ExprTree, StmtTree, StmtTrees, FunctionTree, ItemTree, XsFunction, FileTree, stmts_of}
+use Rattle.xs_csyn.specs.Tree.{ExprTree, StmtTree, StmtTrees, FunctionTree, ItemTree, XsFunction, stmts_of}
 use Rattle.xs_csyn.specs.Words.{is_among, type_words}
 use Rattle.xs_csyn.specs.Input.{Input, Outcome, head_is, is_sign, is_sign_sort, is_key, is_key_sort, is_quoted, is_type_word, sees, sees_key, sees_type, sees_name, line, next, after, expect, expect_key, spelling, left, a_name}
 use Rattle.xs_csyn.specs.Exprs.{expr}
@@ -254,7 +254,7 @@ module _ (file : FileOf) (last : ℕ) where
       ∙ items_done rest w.2 n (omega (arith, parts_shrink x)) (done ++ XsFunction f ∷ [])
       ∙ rw (append_assoc done (XsFunction f ∷ []) all) refl
 
-file_complete : (kind : FileOf) (bytes : List ℕ) (all : List ItemTree) → IsTextOf kind bytes all → AreWithin all → file_of kind bytes ≡ Ok (record { model = model.Lp64; items = all })
+pub file_complete : (kind : FileOf) (bytes : List ℕ) (all : List ItemTree) → IsTextOf kind bytes all → AreWithin all → file_of kind bytes ≡ Ok (record { model = model.Lp64; items = all })
 unfolding file_of tree_of items left
 file_complete kind bytes all x w = rw (x.cut, items_done kind (last_line bytes) x.stands w (length x.all) (omega arith) []) refl
 

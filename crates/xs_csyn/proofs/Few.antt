@@ -8,11 +8,14 @@ use Rattle.xs_csyn.specs.declared.state.Mode.{Mode}
 use Rattle.xs_csyn.specs.declared.state.Mode.TheVariants as mode
 use Rattle.xs_csyn.specs.declared.state.State.{State}
 use Rattle.xs_csyn.specs.declared.token.Token.{Token}
-use Rattle.xs_csyn.specs.Lexemes.{Lexeme, Word, Text, Sign, Bad, Moved, is_word_byte, is_double, begin, begun, moved, behind, in_comment, step, step_at, last, last_at, run, start, lexemes_of}
+use Rattle.xs_base.specs.Scanning.{is_blank, is_word_byte}
+use Rattle.xs_csyn.specs.Lexemes.{Lexeme, Word, Text, Sign, Bad, Moved, is_double, begin, begun, moved, behind, in_comment, freshly, faulted, directive_fault, step, step_at, last, last_at, run, start, lexemes_of}
 use Rattle.xs_csyn.specs.Tokens.{token_of, with_front, all_of, tokens_of}
 
 -- how many lexemes a state may still give
 abbrev pending_at : Mode → ℕ
+pending_at mode.Fresh = 0
+pending_at (mode.Directive bytes) = 1
 pending_at mode.Between = 0
 pending_at (mode.Word w) = 1
 pending_at (mode.Text t) = 1
@@ -25,6 +28,8 @@ abbrev pending : State → ℕ
 pending s = pending_at s.mode
 
 at_most_one : (m : Mode) → pending_at m ≤ 1
+at_most_one mode.Fresh = omega arith
+at_most_one (mode.Directive bytes) = omega arith
 at_most_one mode.Between = omega arith
 at_most_one (mode.Word w) = omega arith
 at_most_one (mode.Text t) = omega arith
@@ -53,7 +58,24 @@ comment_few n line opened b h =
     choice n (b == 42) (moved line (mode.Star opened)) _ (omega arith)
     (choice n (b == 10) (moved (line + 1) (mode.Comment opened)) (moved line (mode.Comment opened)) (omega arith) (omega arith))
 
+faulted_few : (line : ℕ) (o : Option ℕ) → length (faulted line o) ≤ 1
+faulted_few line None = omega arith
+faulted_few line (Some code) = omega arith
+
+ended_few : (line next : ℕ) (o : Option ℕ) → total (behind (faulted line o) (moved next mode.Fresh)) ≤ 2
+ended_few line next None = omega arith
+ended_few line next (Some code) = omega arith
+
+fresh_few : (line b : ℕ) → total (freshly line b) ≤ 1
+fresh_few line b =
+    choice 1 (is_blank b) (moved line mode.Fresh) _ (omega arith)
+    (choice 1 (b == 35) (moved line (mode.Directive [])) (begun line (begin line b)) (omega arith) (begun_few line (begin line b)))
+
 step_few : (m : Mode) (line b : ℕ) → total (step_at m line b) ≤ pending_at m + 1
+step_few mode.Fresh line b = fresh_few line b
+step_few (mode.Directive bytes) line b =
+    choice 2 (b == 10) (behind (faulted line (directive_fault true bytes)) (moved (line + 1) mode.Fresh)) (moved line (mode.Directive (bytes ++ b ∷ [])))
+    (ended_few line (line + 1) (directive_fault true bytes)) (omega arith)
 step_few mode.Between line b = begun_few line (begin line b)
 step_few (mode.Word w) line b =
     choice 2 (is_word_byte b) (moved line (mode.Word (w ++ b ∷ []))) (behind (Word line w ∷ []) (begun line (begin line b))) (omega arith) (behind_few (Word line w) line (begin line b))
@@ -65,7 +87,7 @@ step_few (mode.Mark a) line b =
     choice 2 (a == 47 && b == 42) (moved line (mode.Comment line)) _ (omega arith)
     (choice 2 (is_double a b) (behind (Sign line (a ∷ b ∷ []) ∷ []) (moved line mode.Between)) (behind (Sign line (a ∷ []) ∷ []) (begun line (begin line b))) (omega arith) (behind_few (Sign line (a ∷ [])) line (begin line b)))
 step_few mode.Return line b =
-    choice 2 (b == 10) (moved (line + 1) mode.Between) (behind (Bad 701 line ∷ []) (begun line (begin line b))) (omega arith) (behind_few (Bad 701 line) line (begin line b))
+    choice 2 (b == 10) (moved (line + 1) mode.Fresh) (behind (Bad 701 line ∷ []) (begun line (begin line b))) (omega arith) (behind_few (Bad 701 line) line (begin line b))
 step_few (mode.Comment o) line b = comment_few 2 line o b (omega arith)
 step_few (mode.Star o) line b = choice 2 (b == 47) (moved line mode.Between) (in_comment line o b) (omega arith) (comment_few 2 line o b (omega arith))
 
@@ -75,6 +97,8 @@ run_few s (b ∷ bs) =
     omega (arith, step_few s.mode s.line b, run_few (step s b).state bs, length-append (step s b).lexemes (run (step s b).state bs).lexemes)
 
 last_few : (m : Mode) (line : ℕ) → length (last_at m line) ≤ pending_at m
+last_few mode.Fresh line = omega arith
+last_few (mode.Directive bytes) line = faulted_few line (directive_fault false bytes)
 last_few mode.Between line = omega arith
 last_few (mode.Word w) line = omega arith
 last_few (mode.Text t) line = omega arith

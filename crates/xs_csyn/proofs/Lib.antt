@@ -5,6 +5,7 @@ pub mod Stars
 pub mod LexemeSteps
 pub mod Values
 pub mod Views
+pub mod Passed
 pub mod Running
 pub mod Sound
 pub mod SoundFiles

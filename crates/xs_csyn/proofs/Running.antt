@@ -6,8 +6,10 @@ use Rattle.std.specs.List.{list_all}
 use Rattle.xs_csyn.specs.declared.state.Mode.{Mode}
 use Rattle.xs_csyn.specs.declared.state.Mode.TheVariants as mode
 use Rattle.xs_csyn.specs.declared.state.State.{State}
-use Rattle.xs_csyn.specs.Lexemes.{Lexeme, Word, Text, Sign, Bad, Moved, is_word_byte, is_blank, is_sign_byte, is_double, is_doubled, goes_before_equals, begin, begun, moved, at_line, behind, step, run}
-use Rattle.xs_csyn.specs.Pieces.{Piece, Plain, Name, Bare, Blank, spelled, IsName, IsBare, IsBlank, is_bare_byte, ArePieces, named, named_at, bared, bared_at, blanked, blanked_at, run_pieces}
+use Rattle.xs_base.specs.Scanning.{is_blank, is_word_byte}
+use Rattle.xs_csyn.specs.Lexemes.{Lexeme, Word, Text, Sign, Bad, Moved, is_sign_byte, is_double, is_doubled, goes_before_equals, begin, begun, moved, at_line, behind, step, run}
+use Rattle.xs_csyn.specs.Pieces.{Piece, Plain, Name, Bare, Blank, Line, spelled, IsName, IsBare, IsBlank, IsPassed, is_bare_byte, ArePieces, named, named_at, bared, bared_at, blanked, blanked_at, lined, lined_at, run_pieces}
+use Rattle.xs_csyn.proofs.Passed.{both, freshly_by, passed_line_runs}
 
 pub behind-behind : (a b : List Lexeme) (m : Moved) → behind a (behind b m) ≡ behind (a ++ b) m
 behind-behind a b m = ap (λ all. record { state = m.state; lexemes = all }) (sym (append_assoc a b m.lexemes))
@@ -15,10 +17,6 @@ behind-behind a b m = ap (λ all. record { state = m.state; lexemes = all }) (sy
 pub run-append : (s : State) (xs ys : List ℕ) → run s (xs ++ ys) ≡ behind (run s xs).lexemes (run (run s xs).state ys)
 run-append s [] ys = refl
 run-append s (x ∷ xs) ys = ap (behind (step s x).lexemes) (run-append (step s x).state xs ys) ∙ behind-behind (step s x).lexemes (run (step s x).state xs).lexemes (run (run (step s x).state xs).state ys)
-
-both : (a b : Bool) → (a && b) ≡ true → (a ≡ true) × (b ≡ true)
-both true b h = (refl, h)
-both false b h = absurd cc
 
 in_word : (line : ℕ) (word name : List ℕ) → list_all is_word_byte name ≡ true → run (at_line line (mode.Word word)) name ≡ moved line (mode.Word (word ++ name))
 in_word line word [] h = ap (λ w. moved line (mode.Word w)) (sym (append-nil word))
@@ -34,7 +32,7 @@ abbrev begin_by : Bool → ℕ → ℕ → Option State
 begin_by t line b =
     if t then Some (at_line line (mode.Word (b ∷ [])))
     else if is_blank b then Some (at_line line mode.Between)
-    else if b == 10 then Some (at_line (line + 1) mode.Between)
+    else if b == 10 then Some (at_line (line + 1) mode.Fresh)
     else if b == 13 then Some (at_line line mode.Return)
     else if b == 34 then Some (at_line line (mode.Text []))
     else if is_sign_byte b then Some (at_line line (mode.Mark b))
@@ -61,6 +59,16 @@ not_this c other b h = differs c other b (b == c) refl h
 neither : (a b : Bool) → a ≡ false → b ≡ false → (a || b) ≡ false
 neither true b e f = absurd cc
 neither false b e f = f
+
+word_is_no_blank : (b : ℕ) → is_word_byte b ≡ true → is_blank b ≡ false
+word_is_no_blank b h = neither (b == 32) (b == 9) (not_this 32 refl b h) (not_this 9 refl b h)
+
+from_fresh : (line b : ℕ) (bs : List ℕ) → list_all is_word_byte (b ∷ bs) ≡ true → run (at_line line mode.Fresh) (b ∷ bs) ≡ moved line (mode.Word (b ∷ bs))
+from_fresh line b bs h =
+    let p = both (is_word_byte b) (list_all is_word_byte bs) h in
+    let step_is : freshly_by (is_blank b) (b == 35) line b ≡ begun line (begin line b) =
+    ap (λ t. freshly_by t (b == 35) line b) (word_is_no_blank b p.0) ∙ ap (λ t. freshly_by false t line b) (not_this 35 refl b p.0) in
+    ap (λ (m : Moved). behind m.lexemes (run m.state bs)) step_is ∙ from_between line b bs h
 
 not_second : (a b : Bool) → b ≡ false → (a && b) ≡ false
 not_second true b f = f
@@ -141,6 +149,10 @@ name_is_bare (b ∷ bs) h =
     ap (λ t. t && list_all is_bare_byte bs) (word_is_bare b p.0) ∙ name_is_bare bs p.1
 
 pub run_name : (m : Mode) (line : ℕ) (name : List ℕ) → IsName name → run (at_line line m) name ≡ named_at m line name
+run_name mode.Fresh line name h =
+    let P : List ℕ → Type 0 = λ n. run (at_line line mode.Fresh) n ≡ moved line (mode.Word n) in
+    subst P (sym h.is) (from_fresh line h.head h.tail (ap (list_all is_word_byte) (sym h.is) ∙ h.bytes))
+run_name (mode.Directive bytes) line name h = refl
 run_name mode.Between line name h =
     let P : List ℕ → Type 0 = λ n. run (at_line line mode.Between) n ≡ moved line (mode.Word n) in
     subst P (sym h.is) (from_between line h.head h.tail (ap (list_all is_word_byte) (sym h.is) ∙ h.bytes))
@@ -154,6 +166,8 @@ run_name (mode.Comment opened) line name h = refl
 run_name (mode.Star opened) line name h = refl
 
 pub run_bare : (m : Mode) (line : ℕ) (text : List ℕ) → IsBare text → run (at_line line m) text ≡ bared_at m line text
+run_bare mode.Fresh line text h = refl
+run_bare (mode.Directive bytes) line text h = refl
 run_bare mode.Between line text h = refl
 run_bare (mode.Word word) line text h = refl
 run_bare (mode.Text before) line text h = in_text line before text h.bytes
@@ -165,14 +179,14 @@ run_bare (mode.Star opened) line text h = refl
 -- ---- blanks
 
 blank_is_no_word : (b : ℕ) (t : Bool) → is_word_byte b ≡ t → is_blank b ≡ true → is_word_byte b ≡ false
-blank_is_no_word b true e h = absurd (let no_blank : true ≡ false = sym h ∙ neither (b == 32) (b == 9) (not_this 32 refl b e) (not_this 9 refl b e) in cc)
+blank_is_no_word b true e h = absurd (let no_blank : true ≡ false = sym h ∙ word_is_no_blank b e in cc)
 blank_is_no_word b false e h = e
 
 abbrev begin_when : Bool → Bool → ℕ → ℕ → Option State
 begin_when t u line b =
     if t then Some (at_line line (mode.Word (b ∷ [])))
     else if u then Some (at_line line mode.Between)
-    else if b == 10 then Some (at_line (line + 1) mode.Between)
+    else if b == 10 then Some (at_line (line + 1) mode.Fresh)
     else if b == 13 then Some (at_line line mode.Return)
     else if b == 34 then Some (at_line line (mode.Text []))
     else if is_sign_byte b then Some (at_line line (mode.Mark b))
@@ -188,7 +202,15 @@ in_blanks line (b ∷ bs) h =
     let p = both (is_blank b) (list_all is_blank bs) h in
     ap (λ (o : Option State). behind (begun line o).lexemes (run (begun line o).state bs)) (stays_between line b p.0) ∙ in_blanks line bs p.1
 
+in_fresh_blanks : (line : ℕ) (blanks : List ℕ) → list_all is_blank blanks ≡ true → run (at_line line mode.Fresh) blanks ≡ moved line mode.Fresh
+in_fresh_blanks line [] h = refl
+in_fresh_blanks line (b ∷ bs) h =
+    let p = both (is_blank b) (list_all is_blank bs) h in
+    ap (λ t. let m : Moved = freshly_by t (b == 35) line b in behind m.lexemes (run m.state bs)) p.0 ∙ in_fresh_blanks line bs p.1
+
 pub run_blanks : (m : Mode) (line : ℕ) (blanks : List ℕ) → IsBlank blanks → run (at_line line m) blanks ≡ blanked_at m line blanks
+run_blanks mode.Fresh line blanks h = in_fresh_blanks line blanks h.bytes
+run_blanks (mode.Directive bytes) line blanks h = refl
 run_blanks mode.Between line blanks h = in_blanks line blanks h.bytes
 run_blanks (mode.Word word) line blanks h = refl
 run_blanks (mode.Text text) line blanks h = refl
@@ -196,6 +218,19 @@ run_blanks (mode.Mark a) line blanks h = refl
 run_blanks mode.Return line blanks h = refl
 run_blanks (mode.Comment opened) line blanks h = refl
 run_blanks (mode.Star opened) line blanks h = refl
+
+-- ---- lines that are passed over
+
+pub run_line : (m : Mode) (line : ℕ) (text : List ℕ) → IsPassed text → run (at_line line m) (text ++ 10 ∷ []) ≡ lined_at m line text
+run_line mode.Fresh line text h = passed_line_runs line text h.passed
+run_line (mode.Directive bytes) line text h = refl
+run_line mode.Between line text h = refl
+run_line (mode.Word word) line text h = refl
+run_line (mode.Text before) line text h = refl
+run_line (mode.Mark a) line text h = refl
+run_line mode.Return line text h = refl
+run_line (mode.Comment opened) line text h = refl
+run_line (mode.Star opened) line text h = refl
 
 -- A text in pieces is read without a look into its names.
 pub run-spelled : (s : State) (ps : List Piece) → ArePieces ps → run s (spelled ps) ≡ run_pieces s ps
@@ -211,6 +246,9 @@ run-spelled s (Bare text ∷ ps) h =
 run-spelled s (Blank blanks ∷ ps) h =
     run-append s blanks (spelled ps) ∙ ap (λ (m : Moved). behind m.lexemes (run m.state (spelled ps))) (run_blanks s.mode s.line blanks h.0)
     ∙ ap (behind (blanked s blanks).lexemes) (run-spelled (blanked s blanks).state ps h.1)
+run-spelled s (Line text ∷ ps) h =
+    run-append s (text ++ 10 ∷ []) (spelled ps) ∙ ap (λ (m : Moved). behind m.lexemes (run m.state (spelled ps))) (run_line s.mode s.line text h.0)
+    ∙ ap (behind (lined s text).lexemes) (run-spelled (lined s text).state ps h.1)
 
 pub run_spelled_law : (s : State) (ps : List Piece) → ArePieces ps → run s (spelled ps) ≡ run_pieces s ps
 run_spelled_law = run-spelled

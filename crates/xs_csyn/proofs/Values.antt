@@ -1,36 +1,23 @@
 -- The value of digits, and the sorts of words.
-use Rattle.std.proofs.Common.{◌≡◌, ℕ, zero, suc, ◌+◌, ◌*◌, ◌-◌, ◌%◌, ◌^◌, ◌<◌, ◌≤◌, Bool, true, false, not, ◌&&◌, ◌||◌, List, [], ◌∷◌, ◌++◌, length, get_or, drop, fold, refl, sym, ap, ◌∙◌, arith}
-use Rattle.std.specs.Prelude.{Some, None, ◌==◌, nat_le, nat_lt, if◌then◌else◌}
+use Rattle.std.proofs.Common.{◌≡◌, ℕ, zero, suc, ◌+◌, ◌*◌, ◌-◌, ◌%◌, ◌^◌, ◌<◌, Bool, true, false, not, ◌&&◌, ◌||◌, List, [], ◌∷◌, ◌++◌, get_or, refl, sym, ap, ◌∙◌, arith}
+use Rattle.std.specs.Prelude.{Some, None, nat_lt, if◌then◌else◌}
 use Rattle.std.specs.Fmt.{decimal}
 use Rattle.std.specs.List.{list_all}
 use Rattle.std.specs.Str.{bytes_eq}
-use Rattle.std.proofs.Math.Seq.{drop-cons}
 use Rattle.std.proofs.lemmas.Bool.Decides.{nat_tests}
 use Rattle.std.proofs.lemmas.Fmt.{decimal_by_steps, decimal_digit, first_decimal}
 use Rattle.std.proofs.lemmas.List.Sums.{fold-append}
 use Rattle.std.proofs.lemmas.Slice.Eq.{bytes_eq-Decides}
 use Rattle.xs_csyn.specs.declared.token.Sort.TheVariants as sort
-use Rattle.xs_csyn.specs.Lexemes.{is_digit, is_word_byte}
+use Rattle.xs_base.specs.Scanning.{begins_word, is_digit, is_word_byte, value_of_digits}
 use Rattle.xs_csyn.specs.Pieces.{IsName}
-use Rattle.xs_csyn.specs.Words.{begins, value_of, has_leading_zero, is_decimal, sort_value, sort_word, is_key_word, is_among}
-
-abbrev pub digit_step : ℕ → ℕ → ℕ
-digit_step n b = 10 * n + (b - 48)
-
-fold_grows : (n : ℕ) (ds : List ℕ) → n ≤ fold digit_step n ds
-fold_grows n [] = omega arith
-fold_grows n (d ∷ ds) = omega (arith, fold_grows (10 * n + (d - 48)) ds)
-
-pub too_wide : (n i m : ℕ) (ds : List ℕ) → i < length ds → m ≤ 10 * n + (get_or ds i 0 - 48) → m ≤ fold digit_step n (drop i ds)
-too_wide n i m ds h wide =
-    let e : fold digit_step n (drop i ds) ≡ fold digit_step (10 * n + (get_or ds i 0 - 48)) (drop (suc i) ds) = ap (fold digit_step n) (drop-cons ds i 0 h) in
-    omega (arith, e, fold_grows (10 * n + (get_or ds i 0 - 48)) (drop (suc i) ds))
+use Rattle.xs_csyn.specs.Words.{begins, has_leading_zero, is_decimal, sort_value, sort_word, is_key_word, is_among}
 
 -- ---- what a number is written as
 
 record AreDigits (n : ℕ) (ds : List ℕ) : Type 0 where
   all : list_all is_digit ds ≡ true
-  value : value_of ds ≡ n
+  value : value_of_digits ds ≡ n
   some : begins is_digit ds ≡ true
 
 digit_is : (n : ℕ) → n < 10 → is_digit (48 + n) ≡ true
@@ -75,8 +62,8 @@ unfolding sort_word
 sort_word_decimal n h =
     let d = decimal_digits n h in
     let whole : is_decimal (decimal n) ≡ true = ap (λ b. b && not (has_leading_zero (decimal n))) d.all ∙ ap not (decimal_leads n h) in
-    ap (λ b. if b then (if is_decimal (decimal n) then sort_value (value_of (decimal n)) else Some sort.OtherNumeral) else if is_key_word (decimal n) then Some sort.Key else Some sort.Name) d.some
-    ∙ ap (λ b. if b then sort_value (value_of (decimal n)) else Some sort.OtherNumeral) whole
+    ap (λ b. if b then (if is_decimal (decimal n) then sort_value (value_of_digits (decimal n)) else Some sort.OtherNumeral) else if is_key_word (decimal n) then Some sort.Key else Some sort.Name) d.some
+    ∙ ap (λ b. if b then sort_value (value_of_digits (decimal n)) else Some sort.OtherNumeral) whole
     ∙ ap sort_value d.value
     ∙ ap (λ b. if b then Some (sort.Numeral n) else None) (below_limit n h)
 
@@ -84,17 +71,15 @@ sort_word_decimal n h =
 pub sort_word_name : (name : List ℕ) → begins is_digit name ≡ false → is_key_word name ≡ false → sort_word name ≡ Some sort.Name
 unfolding sort_word
 sort_word_name name d k =
-    ap (λ b. if b then (if is_decimal name then sort_value (value_of name) else Some sort.OtherNumeral) else if is_key_word name then Some sort.Key else Some sort.Name) d
+    ap (λ b. if b then (if is_decimal name then sort_value (value_of_digits name) else Some sort.OtherNumeral) else if is_key_word name then Some sort.Key else Some sort.Name) d
     ∙ ap (λ b. if b then Some sort.Key else Some sort.Name) k
 
-in_the_middle : (a b c d : Bool) → c ≡ true → (((a || b) || c) || d) ≡ true
-in_the_middle true b c d h = refl
-in_the_middle false true c d h = refl
-in_the_middle false false true d h = refl
-in_the_middle false false false d h = absurd cc
+second_holds : (a b : Bool) → b ≡ true → (a || b) ≡ true
+second_holds true b h = refl
+second_holds false b h = h
 
 digit_in_word : (b : ℕ) → is_digit b ≡ true → is_word_byte b ≡ true
-digit_in_word b h = in_the_middle (nat_le 65 b && nat_le b 90) (nat_le 97 b && nat_le b 122) (is_digit b) (b == 95) h
+digit_in_word b h = second_holds (begins_word b) (is_digit b) h
 
 digits_in_word : (ds : List ℕ) → list_all is_digit ds ≡ true → list_all is_word_byte ds ≡ true
 digits_in_word [] h = refl

@@ -1,5 +1,8 @@
 -- A C text as a machine reads it, a byte at a time.
-use Rattle.std.specs.Prelude.{ℕ, ◌+◌, Bool, ◌==◌, ◌&&◌, ◌||◌, nat_le, List, [], ◌∷◌, ◌++◌, if◌then◌else◌, Option, Some, None}
+use Rattle.std.specs.List.{list_all}
+use Rattle.std.specs.Option.{is_none, is_some}
+use Rattle.std.specs.Prelude.{ℕ, ◌+◌, Bool, true, false, not, ◌==◌, ◌&&◌, ◌||◌, nat_le, List, [], ◌∷◌, ◌++◌, codes, if◌then◌else◌, Option, Some, None, option_and_then}
+use Rattle.xs_base.specs.Scanning.{after_word, behind_blanks, is_blank, is_word_byte}
 use Rattle.xs_csyn.specs.declared.state.Mode.{Mode}
 use Rattle.xs_csyn.specs.declared.state.Mode.TheVariants as mode
 use Rattle.xs_csyn.specs.declared.state.State.{State}
@@ -10,16 +13,6 @@ pub data Lexeme : Type 0 where
   Text : ℕ → List ℕ → Lexeme
   Sign : ℕ → List ℕ → Lexeme
   Bad : ℕ → ℕ → Lexeme
-
-abbrev pub is_digit : ℕ → Bool
-is_digit b = nat_le 48 b && nat_le b 57
-
-abbrev pub is_word_byte : ℕ → Bool
-is_word_byte b = (nat_le 65 b && nat_le b 90) || (nat_le 97 b && nat_le b 122) || is_digit b || (b == 95)
-
--- a space or a tab
-abbrev pub is_blank : ℕ → Bool
-is_blank b = b == 32 || b == 9
 
 -- the bytes that punctuators are made of: ! % & ( ) * + , - . / : ; < = > ? [ ] ^ { | } ~
 abbrev pub is_sign_byte : ℕ → Bool
@@ -41,6 +34,66 @@ is_doubled a = a == 38 || (a == 43 || (a == 45 || (a == 60 || (a == 62 || a == 1
 abbrev pub is_double : ℕ → ℕ → Bool
 is_double a b = (b == 61 && goes_before_equals a) || ((a == b && is_doubled a) || (a == 45 && b == 62))
 
+-- ---- directives
+
+-- what stands behind a blank that the text begins with
+abbrev pub behind_blank : List ℕ → Option (List ℕ)
+behind_blank [] = None
+behind_blank (b ∷ bs) = if is_blank b then Some bs else None
+
+-- the text, where it goes on with no byte of a word
+abbrev pub behind_end : List ℕ → Option (List ℕ)
+behind_end [] = Some []
+behind_end (b ∷ bs) = if is_word_byte b then None else Some (b ∷ bs)
+
+-- what stands behind a word that is the text's whole first word
+abbrev pub behind_word : List ℕ → List ℕ → Option (List ℕ)
+behind_word word text = option_and_then behind_end (after_word word text)
+
+abbrev pub is_return : ℕ → List ℕ → Bool
+is_return b [] = b == 13
+is_return b (c ∷ cs) = false
+
+-- the end of the text, to which a byte 13 belongs where a byte 10 follows it
+abbrev pub is_end : Bool → List ℕ → Bool
+is_end followed [] = true
+is_end followed (b ∷ bs) = followed && is_return b bs
+
+-- Nothing but blanks stands up to the end of the text.
+abbrev pub is_over : Bool → List ℕ → Bool
+is_over followed text = is_end followed (behind_blanks text)
+
+abbrev pub is_over_behind : Bool → Option (List ℕ) → Bool
+is_over_behind followed None = false
+is_over_behind followed (Some rest) = is_over followed rest
+
+-- the word that perl's headers look at, and C does not, where it stands alone
+abbrev pub is_no_context : Bool → Option (List ℕ) → Bool
+is_no_context followed None = false
+is_no_context followed (Some rest) = is_over_behind followed (behind_word (codes "PERL_NO_GET_CONTEXT") (behind_blanks rest))
+
+abbrev pub define_fault : Bool → Option (List ℕ) → Option ℕ
+define_fault followed None = Some 701
+define_fault followed (Some rest) = if is_no_context followed (behind_blank rest) then None else Some 706
+
+-- The fault of a line with these bytes behind its `#`, if it is not passed over: `include` and anything behind it is, and
+-- `define` of PERL_NO_GET_CONTEXT as nothing (perlguts). The line is followed by a byte 10 or by the end of the text.
+unfoldable pub directive_fault : Bool → List ℕ → Option ℕ
+directive_fault followed bytes =
+    if is_some (behind_word (codes "include") (behind_blanks bytes)) then None
+    else define_fault followed (behind_word (codes "define") (behind_blanks bytes))
+
+-- nothing, or `#` and a directive that is passed over
+abbrev pub is_passed_text : List ℕ → Bool
+is_passed_text [] = true
+is_passed_text (b ∷ bs) = b == 35 && is_none (directive_fault false bs)
+
+-- The bytes are one line, and it gives no token: blanks alone, or blanks, `#` and a directive that is passed over.
+unfoldable pub is_passed_line : List ℕ → Bool
+is_passed_line text = list_all (λ b. not (b == 10)) text && is_passed_text (behind_blanks text)
+
+-- ---- the machine
+
 abbrev pub at_line : ℕ → Mode → State
 at_line line mode = record { mode = mode; line = line }
 
@@ -49,7 +102,7 @@ unfoldable pub begin : ℕ → ℕ → Option State
 begin line b =
     if is_word_byte b then Some (at_line line (mode.Word (b ∷ [])))
     else if is_blank b then Some (at_line line mode.Between)
-    else if b == 10 then Some (at_line (line + 1) mode.Between)
+    else if b == 10 then Some (at_line (line + 1) mode.Fresh)
     else if b == 13 then Some (at_line line mode.Return)
     else if b == 34 then Some (at_line line (mode.Text []))
     else if is_sign_byte b then Some (at_line line (mode.Mark b))
@@ -71,6 +124,18 @@ abbrev pub begun : ℕ → Option State → Moved
 begun line (Some state) = record { state = state; lexemes = [] }
 begun line None = record { state = at_line line mode.Between; lexemes = Bad 701 line ∷ [] }
 
+-- The state behind a byte with which only blanks stood on the line.
+abbrev pub freshly : ℕ → ℕ → Moved
+freshly line b =
+    if is_blank b then moved line mode.Fresh
+    else if b == 35 then moved line (mode.Directive [])
+    else begun line (begin line b)
+
+-- a directive's fault, or nothing where it is passed over
+abbrev pub faulted : ℕ → Option ℕ → List Lexeme
+faulted line None = []
+faulted line (Some code) = Bad code line ∷ []
+
 abbrev pub in_comment : ℕ → ℕ → ℕ → Moved
 in_comment line opened b =
     if b == 42 then moved line (mode.Star opened)
@@ -78,6 +143,9 @@ in_comment line opened b =
     else moved line (mode.Comment opened)
 
 abbrev pub step_at : Mode → ℕ → ℕ → Moved
+step_at mode.Fresh line b = freshly line b
+step_at (mode.Directive bytes) line b =
+    if b == 10 then behind (faulted line (directive_fault true bytes)) (moved (line + 1) mode.Fresh) else moved line (mode.Directive (bytes ++ b ∷ []))
 step_at mode.Between line b = begun line (begin line b)
 step_at (mode.Word word) line b =
     if is_word_byte b then moved line (mode.Word (word ++ b ∷ [])) else behind (Word line word ∷ []) (begun line (begin line b))
@@ -90,7 +158,7 @@ step_at (mode.Mark a) line b =
     if a == 47 && b == 42 then moved line (mode.Comment line)
     else if is_double a b then behind (Sign line (a ∷ b ∷ []) ∷ []) (moved line mode.Between)
     else behind (Sign line (a ∷ []) ∷ []) (begun line (begin line b))
-step_at mode.Return line b = if b == 10 then moved (line + 1) mode.Between else behind (Bad 701 line ∷ []) (begun line (begin line b))
+step_at mode.Return line b = if b == 10 then moved (line + 1) mode.Fresh else behind (Bad 701 line ∷ []) (begun line (begin line b))
 step_at (mode.Comment opened) line b = in_comment line opened b
 step_at (mode.Star opened) line b = if b == 47 then moved line mode.Between else in_comment line opened b
 
@@ -99,6 +167,8 @@ step s b = step_at s.mode s.line b
 
 -- what is over at the end of the text
 abbrev pub last_at : Mode → ℕ → List Lexeme
+last_at mode.Fresh line = []
+last_at (mode.Directive bytes) line = faulted line (directive_fault false bytes)
 last_at mode.Between line = []
 last_at (mode.Word word) line = Word line word ∷ []
 last_at (mode.Text text) line = Bad 702 line ∷ []
@@ -120,7 +190,7 @@ abbrev pub over : Moved → List Lexeme
 over m = m.lexemes ++ last m.state
 
 abbrev pub start : State
-start = record { mode = mode.Between; line = 1 }
+start = record { mode = mode.Fresh; line = 1 }
 
 abbrev pub lexemes_of : List ℕ → List Lexeme
 lexemes_of bytes = over (run start bytes)

@@ -1,10 +1,10 @@
 -- The words of C text, told apart once.
-use Rattle.std.specs.Prelude.{ℕ, ◌+◌, ◌-◌, ◌*◌, ◌^◌, Bool, false, not, ◌==◌, ◌&&◌, ◌||◌, nat_lt, List, [], ◌∷◌, ◌++◌, fold, codes, if◌then◌else◌, Option, Some, None}
+use Rattle.std.specs.Prelude.{ℕ, ◌^◌, Bool, false, not, ◌==◌, ◌&&◌, ◌||◌, nat_lt, List, [], ◌∷◌, ◌++◌, codes, if◌then◌else◌, Option, Some, None}
 use Rattle.std.specs.List.{list_any, list_all}
 use Rattle.std.specs.Str.{bytes_eq}
 use Rattle.xs_csyn.specs.declared.token.Sort.{Sort}
 use Rattle.xs_csyn.specs.declared.token.Sort.TheVariants as sort
-use Rattle.xs_csyn.specs.Lexemes.{is_digit}
+use Rattle.xs_base.specs.Scanning.{is_digit, value_of_digits}
 
 -- the words by which types are told
 abbrev pub type_words : List (List ℕ)
@@ -44,9 +44,6 @@ abbrev pub begins : (ℕ → Bool) → List ℕ → Bool
 begins p [] = false
 begins p (b ∷ bs) = p b
 
-abbrev pub value_of : List ℕ → ℕ
-value_of = fold (λ n b. 10 * n + (b - 48)) 0
-
 abbrev pub has_leading_zero : List ℕ → Bool
 has_leading_zero (a ∷ b ∷ bs) = a == 48
 has_leading_zero _ = false
@@ -60,5 +57,5 @@ sort_value value = if nat_lt value (2 ^ 64) then Some (sort.Numeral value) else 
 -- the sort of a word, if its value is not too wide
 unfoldable pub sort_word : List ℕ → Option Sort
 sort_word word =
-    if begins is_digit word then (if is_decimal word then sort_value (value_of word) else Some sort.OtherNumeral)
+    if begins is_digit word then (if is_decimal word then sort_value (value_of_digits word) else Some sort.OtherNumeral)
     else if is_key_word word then Some sort.Key else Some sort.Name

@@ -1,7 +1,6 @@
 //! Expressions, by recursive descent.
 
-ghost use Rattle.std.specs.Prelude.{◌≡◌, ◌+◌, ◌<◌, ◌≤◌, IfOk, map};
-ghost use Rattle.std.specs.Prelude.{codes};
+ghost use Rattle.std.specs.Prelude.{◌≡◌, ◌+◌, ◌<◌, ◌≤◌, IfOk};
 ghost use Rattle.xs_csyn.specs.Exprs as spec;
 ghost use Rattle.xs_csyn.specs.Input.{Reads};
 ghost use Rattle.xs_csyn.specs.View.{found, found_all};

@@ -106,9 +106,12 @@ fn read_exactly(alloc: Global, src: &Bytes, file: FileOf) -> Result<CFile, Refus
 /// Reads a C text by the grammar of the glue: XS functions with declarations of `int`, `IV` and `SV`, expressions of names,
 /// integers, texts, calls, casts, assignments, `+` and `!=`, blocks, `if`, and three words of the XS interface (perlxs).
 ///
+/// A line that begins with `#`, blanks aside, is passed over where it is an `#include` or `#define PERL_NO_GET_CONTEXT`
+/// (perlguts).
+///
 /// The first fault is told where there is one. Faults of tokens go first, in their order: 701 for a byte that may not stand
 /// where it does, 702 for a text or comment that does not end, on the line where it begins, 703 for an integer of more than
-/// 64 bits. Else it is 704 at the first token with no reading, or 705 where statements or an expression stand more than 64
+/// 64 bits, 706 for another `#define`. Else it is 704 at the first token with no reading, or 705 where statements or an expression stand more than 64
 /// deep: at the first token of what stands too deep, or at the operator that would push its left operand too deep. At the
 /// early end of the text the line is the last that is not empty, or 1.
 pub fn read_file(alloc: Global, src: &Bytes, file: FileOf) -> Result<CFile, Refuse>

@@ -1,17 +1,25 @@
 //! Laws of the definitions, for all texts.
 
 ghost use Rattle.std.specs.Fmt.{decimal};
-ghost use Rattle.std.specs.Prelude.{◌≡◌, ◌^◌, ◌<◌, List, Some, false, ℕ};
-ghost use Rattle.xs_csyn.specs.Lexemes.{is_digit, run};
+ghost use Rattle.std.specs.Prelude.{◌≡◌, ◌+◌, ◌++◌, ◌^◌, ◌<◌, ◌∷◌, List, Some, [], false, true, ℕ};
+ghost use Rattle.xs_base.specs.Scanning.{is_digit};
+ghost use Rattle.xs_csyn.specs.Lexemes.{at_line, is_passed_line, moved, run};
 ghost use Rattle.xs_csyn.specs.Pieces.{ArePieces, IsName, Piece, run_pieces, spelled};
 ghost use Rattle.xs_csyn.specs.Words.{begins, is_key_word, sort_word};
+ghost use Rattle.xs_csyn.specs.declared.state.Mode.TheVariants as mode;
 ghost use Rattle.xs_csyn.specs.declared.state.State.{State};
 ghost use Rattle.xs_csyn.specs.declared.token.Sort.TheVariants as sort;
 
-/// A text in pieces is cut into tokens without a look into its names, its parts of texts in quotes and its blanks.
+/// A text in pieces is cut into tokens without a look into its names, its parts of texts in quotes, its blanks and its lines that are passed over.
 #[tactic(auto, using(crate::proofs::Running::run_spelled_law))]
 pub fn pieces_law()
     ensures { (s : State) (ps : List Piece) → ArePieces ps → run s (spelled ps) ≡ run_pieces s ps }
+{}
+
+/// At the head of a line, one that is passed over gives no token, and leads to the head of the next.
+#[tactic(auto, using(crate::proofs::Passed::passed_line_runs))]
+pub fn passed_law()
+    ensures { (n : ℕ) (text : List ℕ) → is_passed_line text ≡ true → run (at_line n mode.Fresh) (text ++ 10 ∷ []) ≡ moved (n + 1) mode.Fresh }
 {}
 
 /// What a number is written as is one word with that value, and a word without a meaning of its own is a name.

@@ -1,31 +1,21 @@
 //! C text is cut into tokens, a byte at a time.
 
-ghost use Rattle.std.specs.Prelude.{◌≡◌, ◌+◌, ◌-◌, ◌^◌, ◌<◌, ◌≤◌, IfOk, length};
+ghost use Rattle.std.specs.Prelude.{◌≡◌, ◌+◌, ◌-◌, ◌^◌, ◌<◌, ◌≤◌, IfOk, List, false, length, true};
 ghost use Rattle.xs_base.specs.Reading.{Gives};
 ghost use Rattle.xs_csyn.specs.Lexemes as spec;
 ghost use Rattle.xs_csyn.specs.Tokens as tokens;
 ghost use Rattle.xs_csyn.specs.Tokens.{Adds, Begins, Moves};
 ghost use Rattle.xs_csyn.specs.Words as words;
 ghost use Rattle.xs_csyn.specs.declared.state.Mode.TheVariants as mode;
+ghost use Rattle.xs_csyn.specs.declared.token.Token.{Token};
 ghost use Rattle.xs_base.specs.declared.fault.Refuse.TheVariants as refuse;
 
+use crate::directives::directive_fault;
 use crate::state::{Mode, State};
 use crate::token::{Sort, Token};
-use crate::words::{is_digit, sort_word};
+use crate::words::sort_word;
 use std::alloc::Global;
-use xs_base::{Bytes, Fault, FileOf, Items, Refuse};
-
-fn is_word_byte(b: u8) -> bool
-    ensures { result ≡ spec.is_word_byte b }
-{
-    b'A' <= b && b <= b'Z' || b'a' <= b && b <= b'z' || is_digit(b) || b == b'_'
-}
-
-fn is_blank(b: u8) -> bool
-    ensures { result ≡ spec.is_blank b }
-{
-    b == b' ' || b == b'\t'
-}
+use xs_base::{Bytes, Fault, FileOf, Items, Refuse, is_blank, is_word_byte};
 
 fn is_sign_byte(b: u8) -> bool
     ensures { result ≡ spec.is_sign_byte b }
@@ -104,7 +94,7 @@ fn begin(alloc: Global, file: FileOf, line: u32, b: u8) -> Result<State, Refuse>
         })
     } else if b == b'\n' {
         Ok(State {
-            mode: Mode::Between,
+            mode: Mode::Fresh,
             line: line + 1,
         })
     } else if b == b'\r' {
@@ -125,6 +115,73 @@ fn begin(alloc: Global, file: FileOf, line: u32, b: u8) -> Result<State, Refuse>
     } else {
         Err(fault(alloc, file, 701, line))
     }
+}
+
+/// The state behind a byte with which only blanks stood on the line.
+fn step_fresh(alloc: Global, file: FileOf, line: u32, b: u8) -> Result<State, Refuse>
+    requires { line + 1 < 2 ^ 32 }
+    ensures read { (out : List Token) → Moves file (spec.freshly line b) out result out }
+    ensures line { IfOk result (λ s. s.line ≤ line + 1) }
+{
+    if is_blank(b) {
+        Ok(State {
+            mode: Mode::Fresh,
+            line,
+        })
+    } else if b == b'#' {
+        Ok(State {
+            mode: Mode::Directive(Bytes::new(alloc)),
+            line,
+        })
+    } else {
+        begin(alloc, file, line, b)
+    }
+}
+
+/// The state behind the line end of a directive.
+fn next_line(alloc: Global, file: FileOf, line: u32, bytes: &[u8]) -> Result<State, Refuse>
+    requires { line + 1 < 2 ^ 32 }
+    ensures read { (out : List Token) → Moves file (spec.behind (spec.faulted line (spec.directive_fault true bytes.now)) (spec.moved (line + 1) mode.Fresh)) out result out }
+    ensures line { IfOk result (λ s. s.line ≤ line + 1) }
+{
+    match directive_fault(true, bytes) {
+        None => Ok(State {
+            mode: Mode::Fresh,
+            line: line + 1,
+        }),
+        Some(code) => Err(fault(alloc, file, code, line)),
+    }
+}
+
+/// The end of a text that ends within a directive.
+fn end_directive(alloc: Global, file: FileOf, line: u32, bytes: &[u8]) -> Result<(), Refuse>
+    ensures { (out : List Token) → Adds file (spec.faulted line (spec.directive_fault false bytes.now)) out result out }
+{
+    match directive_fault(false, bytes) {
+        None => Ok(()),
+        Some(code) => Err(fault(alloc, file, code, line)),
+    }
+}
+
+fn step_directive(
+    alloc: Global,
+    file: FileOf,
+    line: u32,
+    mut bytes: Bytes,
+    b: u8,
+) -> Result<State, Refuse>
+    requires { line + 1 < 2 ^ 32 }
+    ensures read { (out : List Token) → Moves file (spec.step_at (mode.Directive bytes) line b) out result out }
+    ensures line { IfOk result (λ s. s.line ≤ line + 1) }
+{
+    if b == b'\n' {
+        return next_line(alloc, file, line, bytes.as_slice());
+    }
+    bytes.append(&[b])?;
+    Ok(State {
+        mode: Mode::Directive(bytes),
+        line,
+    })
 }
 
 fn step_word(
@@ -224,6 +281,22 @@ fn step_mark(
     }
 }
 
+/// The state behind a byte that follows a carriage return.
+fn step_return(alloc: Global, file: FileOf, line: u32, b: u8) -> Result<State, Refuse>
+    requires { line + 1 < 2 ^ 32 }
+    ensures read { (out : List Token) → Moves file (spec.step_at mode.Return line b) out result out }
+    ensures line { IfOk result (λ s. s.line ≤ line + 1) }
+{
+    if b == b'\n' {
+        Ok(State {
+            mode: Mode::Fresh,
+            line: line + 1,
+        })
+    } else {
+        Err(fault(alloc, file, 701, line))
+    }
+}
+
 /// The state behind a byte of a comment that was opened on a line.
 fn in_comment(line: u32, opened: u32, b: u8) -> State
     requires { line + 1 < 2 ^ 32 }
@@ -262,20 +335,13 @@ fn step(
 {
     let State { mode, line } = state;
     match mode {
+        Mode::Fresh => step_fresh(alloc, file, line, b),
+        Mode::Directive(bytes) => step_directive(alloc, file, line, bytes, b),
         Mode::Between => begin(alloc, file, line, b),
         Mode::Word(word) => step_word(alloc, out, file, line, word, b),
         Mode::Text(text) => step_text(alloc, out, file, line, text, b),
         Mode::Mark(a) => step_mark(alloc, out, file, line, a, b),
-        Mode::Return => {
-            if b == b'\n' {
-                Ok(State {
-                    mode: Mode::Between,
-                    line: line + 1,
-                })
-            } else {
-                Err(fault(alloc, file, 701, line))
-            }
-        }
+        Mode::Return => step_return(alloc, file, line, b),
         Mode::Comment(opened) => Ok(in_comment(line, opened, b)),
         Mode::Star(opened) => {
             if b == b'/' {
@@ -296,7 +362,8 @@ fn end(alloc: Global, out: &mut Items<Token>, file: FileOf, state: State) -> Res
 {
     let State { mode, line } = state;
     match mode {
-        Mode::Between => Ok(()),
+        Mode::Fresh | Mode::Between => Ok(()),
+        Mode::Directive(bytes) => end_directive(alloc, file, line, bytes.as_slice()),
         Mode::Word(word) => {
             out.push(word_token(alloc, file, line, word)?)?;
             Ok(())
@@ -317,7 +384,7 @@ fn end(alloc: Global, out: &mut Items<Token>, file: FileOf, state: State) -> Res
 }
 
 /// The tokens of a C text, or its first fault: 701 for a byte that may not stand where it does, 702 for a text or comment
-/// that does not end, on the line where it begins, 703 for an integer of more than 64 bits.
+/// that does not end, on the line where it begins, 703 for an integer of more than 64 bits, 706 for a `#define` that is not passed over.
 #[tactic(auto, unfolding(crate::specs::Tokens::tokens_of))]
 pub fn tokens(alloc: Global, src: &[u8], file: FileOf) -> Result<Items<Token>, Refuse>
     requires { length src.now < 2 ^ 32 - 1 }
@@ -325,7 +392,7 @@ pub fn tokens(alloc: Global, src: &[u8], file: FileOf) -> Result<Items<Token>, R
 {
     let mut out = Items::new(alloc);
     let mut state = State {
-        mode: Mode::Between,
+        mode: Mode::Fresh,
         line: 1,
     };
     for b in src {

@@ -3,6 +3,7 @@
 
 mod building;
 mod cursor;
+mod directives;
 mod exprs;
 mod file;
 mod laws;
@@ -16,6 +17,7 @@ mod token;
 mod tree;
 mod words;
 
+pub use directives::is_passed_line;
 pub use file::read_file;
-pub use laws::{pieces_law, words_law};
+pub use laws::{passed_law, pieces_law, words_law};
 pub use tree::{BinaryOp, CFile, CType, Expr, FileItem, PerlForm, Place, Stmt, XsFun};

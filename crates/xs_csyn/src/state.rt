@@ -5,6 +5,10 @@ use xs_base::Bytes;
 /// What the bytes that were read last belong to.
 #[derive(Debug, Drop)]
 pub enum Mode {
+    /// Nothing that is still open, and only blanks stand on the line so far.
+    Fresh,
+    /// A directive, so far: the bytes of the line behind its `#`.
+    Directive(Bytes),
     /// Nothing that is still open.
     Between,
     /// A word, so far.

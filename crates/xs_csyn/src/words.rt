@@ -1,11 +1,11 @@
 //! The words of C text are told apart.
 
-ghost use Rattle.std.specs.Prelude.{◌≡◌, ◌^◌, ◌≤◌, IfNone, IfSome, map};
-ghost use Rattle.std.specs.List.{list_all};
+ghost use Rattle.std.specs.Prelude.{◌≡◌, map};
+ghost use Rattle.xs_base.specs.Scanning.{value_of_digits};
 ghost use Rattle.xs_csyn.specs.Words as spec;
-ghost use Rattle.xs_csyn.specs.Lexemes as lexeme;
 
 use crate::token::Sort;
+use xs_base::{are_digits, digits_value, is_digit};
 
 /// The words by which types are told.
 const TYPE_WORDS: [&str; 3] = ["int", "IV", "SV"];
@@ -126,30 +126,6 @@ fn is_key(word: &[u8]) -> bool
     is_no_name(word) || is_among(&INTERFACE_WORDS, word)
 }
 
-pub fn is_digit(b: u8) -> bool
-    ensures { result ≡ lexeme.is_digit b }
-{
-    b'0' <= b && b <= b'9'
-}
-
-/// The value of digits, if it has 64 bits.
-fn value(digits: &[u8]) -> Option<u64>
-    ensures some { IfSome result (λ n. n ≡ spec.value_of digits.now) }
-    ensures none { IfNone result (2 ^ 64 ≤ spec.value_of digits.now) }
-{
-    let mut n: u64 = 0;
-    for b in digits {
-        let Some(tens) = n.checked_mul(10) else {
-            return None;
-        };
-        let Some(more) = tens.checked_add(b.saturating_sub(48) as u64) else {
-            return None;
-        };
-        n = more;
-    }
-    Some(n)
-}
-
 fn has_leading_zero(word: &[u8]) -> bool
     ensures { result ≡ spec.has_leading_zero word.now }
 {
@@ -159,12 +135,6 @@ fn has_leading_zero(word: &[u8]) -> bool
     }
 }
 
-fn are_digits(word: &[u8]) -> bool
-    ensures { result ≡ list_all lexeme.is_digit word.now }
-{
-    word.iter().all(|b| is_digit(*b))
-}
-
 fn is_decimal(word: &[u8]) -> bool
     ensures { result ≡ spec.is_decimal word.now }
 {
@@ -172,9 +142,9 @@ fn is_decimal(word: &[u8]) -> bool
 }
 
 fn value_sort(word: &[u8]) -> Option<Sort>
-    ensures { result ≡ spec.sort_value (spec.value_of word.now) }
+    ensures { result ≡ spec.sort_value (value_of_digits word.now) }
 {
-    match value(word) {
+    match digits_value(word) {
         Some(n) => Some(Sort::Numeral(n)),
         None => None,
     }

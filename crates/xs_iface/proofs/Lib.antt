@@ -1,4 +1,7 @@
+pub mod Apart
+pub mod Chains
+pub mod Collecting
+pub mod NameBytes
+pub mod Noted
 pub mod Runs
-pub mod Digits
-pub mod Names
-pub mod Forms
+pub mod Sums

@@ -1,24 +1,14 @@
--- Bytes in front of a text: runs of one class, and words that must stand there.
-use Rattle.std.specs.List.{list_all}
-use Rattle.std.specs.Prelude.{ℕ, zero, suc, ◌+◌, ◌*◌, ◌-◌, length, codes, ◌==◌, ◌&&◌, ◌||◌, not, Bool, true, false, nat_le, List, [], ◌∷◌, Option, Some, None, option_and_then, if◌then◌else◌}
+-- Runs of one class of bytes in front of a text, names of packages, and words with a divider between them.
+use Rattle.std.specs.Prelude.{ℕ, zero, suc, length, codes, ◌==◌, ◌&&◌, ◌||◌, Bool, true, false, List, [], ◌∷◌, Option, Some, None, if◌then◌else◌}
+use Rattle.xs_base.specs.Scanning.{after_word, is_blank, is_identifier, is_word_byte}
 use Rattle.xs_iface.specs.declared.scan.Class.{Class}
-use Rattle.xs_iface.specs.declared.scan.Class.TheVariants.{Blank, Word, Name, Digit}
-
-abbrev pub is_between : ℕ → ℕ → ℕ → Bool
-is_between low high b = nat_le low b && nat_le b high
-
-abbrev pub is_digit : ℕ → Bool
-is_digit b = is_between 48 57 b
-
-abbrev pub is_word_byte : ℕ → Bool
-is_word_byte b = is_between 65 90 b || is_between 97 122 b || is_digit b || (b == 95)
+use Rattle.xs_iface.specs.declared.scan.Class.TheVariants.{Blank, Word, Name}
 
 -- whether a byte is of a class
 abbrev pub belongs : Class → ℕ → Bool
-belongs Blank b = (b == 32) || (b == 9)
+belongs Blank b = is_blank b
 belongs Word b = is_word_byte b
 belongs Name b = is_word_byte b || (b == 58)
-belongs Digit b = is_digit b
 
 -- the longest run of a class in front
 abbrev pub front_of : Class → List ℕ → List ℕ
@@ -30,24 +20,9 @@ abbrev pub behind : Class → List ℕ → List ℕ
 behind class [] = []
 behind class (b ∷ bs) = if belongs class b then behind class bs else b ∷ bs
 
--- what stands behind a byte that the text begins with
-abbrev pub after_byte : ℕ → List ℕ → Option (List ℕ)
-after_byte w [] = None
-after_byte w (b ∷ bs) = if b == w then Some bs else None
-
--- what stands behind a word that the text begins with
-abbrev pub after_word : List ℕ → List ℕ → Option (List ℕ)
-after_word [] text = Some text
-after_word (w ∷ ws) text = option_and_then (after_word ws) (after_byte w text)
-
 abbrev pub is_nothing : List ℕ → Bool
 is_nothing [] = true
 is_nothing (b ∷ bs) = false
-
--- An identifier is word bytes, one at least, and does not begin with a digit.
-abbrev pub is_identifier : List ℕ → Bool
-is_identifier [] = false
-is_identifier (b ∷ bs) = not (is_digit b) && list_all (belongs Word) (b ∷ bs)
 
 abbrev pub passes : (List ℕ → Bool) → Option (List ℕ) → Bool
 passes test None = false
@@ -64,7 +39,20 @@ is_name_within (suc n) text =
 unfoldable pub is_package_name : List ℕ → Bool
 is_package_name text = is_name_within (length text) text
 
--- the number that decimal digits represent, behind those that were read
-abbrev pub read_on : ℕ → List ℕ → ℕ
-read_on n [] = n
-read_on n (d ∷ ds) = read_on (10 * n + (d - 48)) ds
+-- words with a divider between them, and what stands behind the last
+abbrev pub Chain : Type 0
+Chain = List (List ℕ) × List ℕ
+
+-- a word in front of the chain that the divider leads to
+abbrev pub linked : (List ℕ → Chain) → List ℕ → List ℕ → Option (List ℕ) → Chain
+linked more word rest None = (word ∷ [], rest)
+linked more word rest (Some next) = (word ∷ (more next).0, (more next).1)
+
+-- a chain of at most so many words
+abbrev pub chain_within : ℕ → List ℕ → List ℕ → Chain
+chain_within zero divider text = ([], text)
+chain_within (suc n) divider text = linked (chain_within n divider) (front_of Word text) (behind Word text) (after_word divider (behind Word text))
+
+-- The words in front of a text, as far as the divider stands between them; there are no more than bytes.
+unfoldable pub chain_of : List ℕ → List ℕ → Chain
+chain_of divider text = chain_within (length text) divider text

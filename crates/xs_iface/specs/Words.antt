@@ -3,7 +3,7 @@ use Rattle.std.specs.List.{list_any}
 use Rattle.std.specs.Prelude.{ℕ, ◌&&◌, not, Bool, List}
 use Rattle.std.specs.Str.{bytes_eq}
 use Rattle.xs_iface.specs.declared.words.TheConstants.{RESERVED}
-use Rattle.xs_iface.specs.Scan.{is_identifier}
+use Rattle.xs_base.specs.Scanning.{is_identifier}
 
 -- a reserved word
 unfoldable pub is_reserved : List ℕ → Bool

@@ -1,7 +1,9 @@
-//! Bytes in front of a text: runs of one class, and words that must stand there.
-ghost use Rattle.std.specs.List.{list_all};
-ghost use Rattle.std.specs.Prelude.{◌≡◌, ◌<◌, ◌≤◌, MatchOption, None, Some, length, true};
-ghost use Rattle.xs_iface.specs.Scan.{after_byte, after_word, behind, belongs, front_of, is_digit, is_identifier, is_package_name, read_on};
+//! Runs of one class of bytes in front of a text, and words with a divider between them.
+ghost use Rattle.std.specs.Prelude.{◌≡◌, ◌≤◌, IfOk, length};
+ghost use Rattle.xs_iface.specs.Scan.{behind, belongs, chain_of, front_of};
+
+use std::alloc::Global;
+use xs_base::{Bytes, Items, Memory, after_word, is_blank, is_word_byte};
 
 /// A class of bytes.
 #[derive(Clone, Copy, Debug, PartialEq, Eq)]
@@ -12,19 +14,16 @@ pub enum Class {
     Word,
     /// What stands in identifiers joined by `::`.
     Name,
-    /// A decimal digit.
-    Digit,
 }
 
 /// Whether a byte is of a class.
-pub fn belongs(class: Class, byte: u8) -> bool
+fn belongs(class: Class, byte: u8) -> bool
     ensures { result ≡ belongs class byte }
 {
     match class {
-        Class::Blank => byte == b' ' || byte == b'\t',
-        Class::Word => byte.is_ascii_alphanumeric() || byte == b'_',
-        Class::Name => byte.is_ascii_alphanumeric() || byte == b'_' || byte == b':',
-        Class::Digit => byte.is_ascii_digit(),
+        Class::Blank => is_blank(byte),
+        Class::Word => is_word_byte(byte),
+        Class::Name => is_word_byte(byte) || byte == b':',
     }
 }
 
@@ -52,79 +51,24 @@ fn run_len(class: Class, text: &[u8]) -> usize
     len
 }
 
-/// What stands behind a byte, where the text begins with it.
-pub fn after_byte(byte: u8, text: &[u8]) -> Option<&[u8]>
-    ensures { MatchOption result (after_byte byte text.now ≡ None) (λ rest. after_byte byte text.now ≡ Some rest.now) }
+/// The words in front of a text, as far as the divider stands between them, and what stands behind the last.
+#[tactic(auto, unfolding(crate::specs::Scan::chain_of))]
+pub fn read_chain<'a>(
+    alloc: Global,
+    divider: &[u8],
+    text: &'a [u8],
+) -> Result<(Items<Bytes>, &'a [u8]), Memory>
+    ensures { IfOk result (λ chain. chain_of divider.now text.now ≡ (chain.0, chain.1.now)) }
 {
-    match text {
-        [first, rest @ ..] => { if *first == byte { Some(rest) } else { None } }
-        [] => None,
-    }
-}
-
-/// What stands behind a word, where the text begins with the word.
-pub fn after_word<'a>(word: &[u8], text: &'a [u8]) -> Option<&'a [u8]>
-    ensures { MatchOption result (after_word word.now text.now ≡ None) (λ rest. after_word word.now text.now ≡ Some rest.now) }
-{
-    let mut rest = text;
-    for byte in word {
-        rest = after_byte(*byte, rest)?;
-    }
-    Some(rest)
-}
-
-/// Whether each byte of a text is of a class.
-pub fn is_all(class: Class, text: &[u8]) -> bool
-    ensures { result ≡ list_all (belongs class) text.now }
-{
-    text.iter().all(|byte| belongs(class, *byte))
-}
-
-/// Whether a text is an identifier: word bytes, one at least, of which the first is no digit.
-pub fn is_identifier(text: &[u8]) -> bool
-    ensures { result ≡ is_identifier text.now }
-{
-    match text {
-        [first, ..] => !belongs(Class::Digit, *first) && is_all(Class::Word, text),
-        [] => false,
-    }
-}
-
-/// Whether a text is identifiers joined by `::`.
-#[tactic(auto, unfolding(crate::specs::Scan::is_package_name))]
-pub fn is_package_name(text: &[u8]) -> bool
-    ensures { result ≡ is_package_name text.now }
-{
+    let mut words = Items::new(alloc);
     let mut rest = text;
     for _turn in 0..text.len() {
-        let (part, behind) = cut_run(Class::Word, rest);
-        if !is_identifier(part) {
-            return false;
-        }
-        if behind.is_empty() {
-            return true;
-        }
-        match after_word(b"::", behind) {
+        let (word, behind) = cut_run(Class::Word, rest);
+        words.push(Bytes::from_slice(alloc, word)?)?;
+        match after_word(divider, behind) {
             Some(next) => rest = next,
-            None => return false,
+            None => return Ok((words, behind)),
         }
     }
-    false
-}
-
-/// The number that decimal digits represent, where it is no more than the limit.
-#[tactic(auto, using(crate::proofs::Digits::grows))]
-pub fn digits_value(digits: &[u8], limit: u64) -> Option<u64>
-    requires { list_all is_digit digits.now ≡ true }
-    ensures { MatchOption result (limit < read_on 0 digits.now) (λ v. (v ≡ read_on 0 digits.now) × (v ≤ limit)) }
-{
-    let mut value: u64 = 0;
-    for digit in digits {
-        let next = u128::from(value) * 10 + u128::from(*digit - b'0');
-        if next > u128::from(limit) {
-            return None;
-        }
-        value = next as u64;
-    }
-    Some(value)
+    Ok((words, rest))
 }

@@ -4,7 +4,7 @@ ghost use Rattle.std.specs.Prelude.{◌≡◌};
 ghost use Rattle.std.specs.Str.{bytes_eq};
 ghost use Rattle.xs_iface.specs.Words.{is_free, is_reserved};
 
-use crate::scan::is_identifier;
+use xs_base::is_identifier;
 
 /// The words that name no parameter and no function in this form: the words of the C subset, the
 /// functions of Perl's API that it knows, and the names that glue code declares itself.

@@ -1,5 +1,5 @@
 //! What the compiler knows of an XS file.
-use xs_base::{Bytes, Items};
+use xs_base::{Bytes, Items, Line};
 
 /// What the compiler knows of an XS file.
 #[derive(Debug, Drop)]
@@ -8,6 +8,8 @@ pub struct Module {
     pub boot: Bytes,
     /// The number of the MODULE line.
     pub boot_line: u32,
+    /// The lines of the C part, without POD.
+    pub c_part: Items<Line>,
     pub xsubs: Items<Xsub>,
 }
 

@@ -3,7 +3,7 @@ use Rattle.std.proofs.Common.{◌≡◌, ℕ, suc, ◌+◌, Bool, true, false, L
 use Rattle.xs_machine.specs.declared.api.Abrupt.{Abrupt}
 use Rattle.xs_machine.specs.declared.api.Operand.{Operand}
 use Rattle.xs_machine.specs.declared.api.Operand.TheVariants.{Void}
-use Rattle.xs_machine.specs.Tree.{Tree, Literal, Variable, ItemCount, Assign, Binary, Convert, ApiRow, Block, If, Forget, Declare, Trees, NoTrees, MoreTrees, tree_count, Code}
+use Rattle.xs_ccheck.specs.Tree.{Tree, Literal, Variable, ItemCount, Assign, Binary, Convert, ApiRow, Block, If, Forget, Declare, Trees, NoTrees, MoreTrees, tree_count, Code}
 use Rattle.xs_machine.specs.State.{State, Out, Done, Stop, Prims, ◌>>=◌, lift, assigned, assign_as, operate, convert, truth_of}
 use Rattle.xs_machine.specs.Cmean.{choose, meaning, meanings, meaning_all}
 use Rattle.xs_machine.specs.Machine.{Work, DoTree, DoTrees, DoBlock, SetVar, Operate, ConvertTop, DoRow, Branch, ForgetTop, DropTop, Mach, taken, run_on, unwind, land, branch_on, step, steps}

@@ -3,12 +3,3 @@ pub mod Ends
 pub mod Cells
 pub mod Tops
 pub mod Temps
-pub mod Forest
-pub mod Callees
-pub mod GlueTyped
-pub mod Growing
-pub mod Kept
-pub mod ExprSizes
-pub mod Calls
-pub mod StmtSizes
-pub mod Stmts

@@ -4,7 +4,7 @@ use Rattle.xs_values.specs.declared.trap.Trap.TheVariants as trap
 use Rattle.xs_machine.specs.declared.api.Abrupt.TheVariants.{Traps}
 use Rattle.xs_machine.specs.declared.api.Operand.{Operand}
 use Rattle.xs_machine.specs.declared.api.Operand.TheVariants.{Unset, Num, Void}
-use Rattle.xs_machine.specs.Tree.{Tree, Literal, Variable, ItemCount, Assign, Binary, Convert, ApiRow, Block, If, Forget, Declare, Trees, NoTrees, MoreTrees}
+use Rattle.xs_ccheck.specs.Tree.{Tree, Literal, Variable, ItemCount, Assign, Binary, Convert, ApiRow, Block, If, Forget, Declare, Trees, NoTrees, MoreTrees}
 use Rattle.xs_machine.specs.State.{State, Out, Done, Stop, Prims, ◌>>=◌, lift, read_var, write_var, assigned, assign_as, item_count, operate, convert, truth_of}
 
 -- one of two runs, by a condition

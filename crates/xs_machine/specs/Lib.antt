@@ -1,4 +1,3 @@
-pub mod Tree
 pub mod World
 pub mod State
 pub mod Heaps
@@ -7,10 +6,4 @@ pub mod Places
 pub mod Cmean
 pub mod Machine
 pub mod Law
-pub mod Arena
 pub mod Views
-pub mod Placed
-pub mod Growth
-pub mod Typing
-pub mod Resolving
-pub mod ResolvingStmts

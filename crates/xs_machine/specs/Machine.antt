@@ -1,5 +1,5 @@
 -- The machine, which works through a list of pending work one step at a time.
-use Rattle.std.specs.Prelude.{ℕ, zero, suc, ◌+◌, ◌*◌, max, Bool, true, false, cond, nat_lt, List, [], ◌∷◌, ◌++◌, length, take, replicate, Option, Some, None, slice_get, codes}
+use Rattle.std.specs.Prelude.{ℕ, zero, suc, ◌+◌, ◌*◌, max, Bool, true, false, cond, nat_lt, List, [], ◌∷◌, ◌++◌, length, take, replicate, Option, Some, None, codes}
 use Rattle.xs_values.specs.declared.kind.Kind.{Kind}
 use Rattle.xs_values.specs.declared.operator.Op.{Op}
 use Rattle.xs_values.specs.declared.trap.Trap.TheVariants as trap
@@ -7,11 +7,12 @@ use Rattle.xs_machine.specs.declared.api.Abrupt.{Abrupt}
 use Rattle.xs_machine.specs.declared.api.Abrupt.TheVariants.{Returns, Croaks, Traps, Spent}
 use Rattle.xs_machine.specs.declared.api.Operand.{Operand}
 use Rattle.xs_machine.specs.declared.api.Operand.TheVariants.{Unset, Num, Void}
-use Rattle.xs_machine.specs.declared.ccheck.ValueType.{ValueType}
+use Rattle.xs_ccheck.specs.declared.code.ValueType.{ValueType}
 use Rattle.xs_machine.specs.declared.machine.Outcome.{Outcome}
 use Rattle.xs_machine.specs.declared.machine.Outcome.TheVariants as outcome
 use Rattle.xs_machine.specs.declared.stacks.Depths.{Depths}
-use Rattle.xs_machine.specs.Tree.{Row, XsEnd, Tree, Literal, Variable, ItemCount, Assign, Binary, Convert, ApiRow, Block, If, Forget, Declare, Trees, NoTrees, MoreTrees, tree_count, Function, Code}
+use Rattle.xs_ccheck.specs.Functions.{function_at, boot_at, name_of}
+use Rattle.xs_ccheck.specs.Tree.{Row, XsEnd, Tree, Literal, Variable, ItemCount, Assign, Binary, Convert, ApiRow, Block, If, Forget, Declare, Trees, NoTrees, MoreTrees, tree_count, Function, Code}
 use Rattle.xs_machine.specs.World.{World, Swept, Clean, Dirty, depths_of, new_cells, registered, sweep}
 use Rattle.xs_machine.specs.State.{State, Out, Done, Stop, Prims, tick, lift, with_store, read_var, write_var, assigned, assign_as, item_count, operate, convert, truth_of}
 use Rattle.xs_machine.specs.Rows.{counted_rows, most_items}
@@ -57,11 +58,6 @@ taken (suc n) acc (v ∷ vs) = taken n (v ∷ acc) vs
 -- the croak for a name that no function has
 abbrev pub undefined_text : List ℕ → List ℕ
 undefined_text name = codes "Undefined subroutine &" ++ name ++ codes " called"
-
--- the function of a number
-abbrev pub function_at : Code → Option ℕ → Option Function
-function_at code None = None
-function_at code (Some f) = slice_get code.functions f
 
 module _ {S : Type 0} where
   abbrev pub run_on : List Work → List Operand → State S → Mach S
@@ -278,18 +274,6 @@ begun_at sub f args turns m =
 -- the entry of the function that is registered under a name
 abbrev pub begun : List ℕ → List ℕ → ℕ → Mach World → Mach World
 begun sub args turns m = begun_at sub (registered sub m.state.store.names) args turns m
-
--- the number of the boot function, and its name
-abbrev pub boot_from : ℕ → List Function → Option ℕ
-boot_from n [] = None
-boot_from n (f ∷ all) = cond f.is_boot (Some n) (boot_from (suc n) all)
-
-abbrev pub boot_at : Code → Option ℕ
-boot_at code = boot_from 0 code.functions
-
-abbrev pub name_of : Option Function → List ℕ
-name_of None = []
-name_of (Some f) = f.name
 
 -- the entry of the boot function under its own name
 abbrev pub boot_begun : Code → ℕ → Mach World → Mach World

@@ -12,7 +12,7 @@ use Rattle.xs_machine.specs.declared.api.Frame.{Frame}
 use Rattle.xs_machine.specs.declared.api.Operand.{Operand}
 use Rattle.xs_machine.specs.declared.api.Operand.TheVariants.{Num, Scalar, Void}
 use Rattle.xs_machine.specs.declared.heap.Cell.{Cell}
-use Rattle.xs_machine.specs.Tree.{Row, Entry, StRead, SvIv, SvNewMortal, SvSetIv, StSet, XsReturn, XsReturnYes, XsEnd, CroakUsage, NewXs}
+use Rattle.xs_ccheck.specs.Tree.{Row, Entry, StRead, SvIv, SvNewMortal, SvSetIv, StSet, XsReturn, XsReturnYes, XsEnd, CroakUsage, NewXs}
 use Rattle.xs_machine.specs.State.{Effect, Gives, Ends, Prims}
 use Rattle.xs_machine.specs.World.{World, cell_at, gone, is_read_only, may_make, sweep, with_cells, with_new, with_value}
 

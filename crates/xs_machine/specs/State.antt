@@ -12,10 +12,10 @@ use Rattle.xs_machine.specs.declared.api.Abrupt.TheVariants.{Traps}
 use Rattle.xs_machine.specs.declared.api.Frame.{Frame}
 use Rattle.xs_machine.specs.declared.api.Operand.{Operand}
 use Rattle.xs_machine.specs.declared.api.Operand.TheVariants.{Unset, Num, Scalar, Void}
-use Rattle.xs_machine.specs.declared.ccheck.ValueType.{ValueType}
-use Rattle.xs_machine.specs.declared.ccheck.ValueType.TheVariants as type_of
+use Rattle.xs_ccheck.specs.declared.code.ValueType.{ValueType}
+use Rattle.xs_ccheck.specs.declared.code.ValueType.TheVariants as type_of
 use Rattle.xs_machine.specs.declared.stacks.Depths.{Depths}
-use Rattle.xs_machine.specs.Tree.{Row}
+use Rattle.xs_ccheck.specs.Tree.{Row}
 use Rattle.xs_machine.specs.World.{Swept}
 
 -- the variables of the present function by their slots, what it knows of its call, what the rows work on, and the turns that are left

@@ -1,19 +1,19 @@
 -- The machine of the program, seen as the machine of the definitions.
-use Rattle.std.specs.Prelude.{◌≡◌, ℕ, List, [], map, reverse, Option, Some, None, Result, Ok, Err}
+use Rattle.std.specs.Prelude.{◌≡◌, ℕ, List, [], map, reverse, Some, Result, Ok, Err}
 use Rattle.xs_values.specs.declared.trap.Trap.{Trap}
 use Rattle.xs_machine.specs.declared.api.Halt.{Halt}
 use Rattle.xs_machine.specs.declared.api.Halt.TheVariants.{Way, Memory}
 use Rattle.xs_machine.specs.declared.api.Frame.{Frame}
 use Rattle.xs_machine.specs.declared.api.Operand.{Operand}
 use Rattle.xs_machine.specs.declared.api.Perl.{Perl}
-use Rattle.xs_machine.specs.declared.ccheck.Callable.{Callable}
-use Rattle.xs_machine.specs.declared.ccheck.Typed.{Typed}
+use Rattle.xs_ccheck.specs.declared.code.Typed.{Typed}
 use Rattle.xs_machine.specs.declared.machine.Machine.{Machine}
 use Rattle.xs_machine.specs.declared.machine.Outcome.TheVariants as outcome
 use Rattle.xs_machine.specs.declared.machine.Task.{Task}
 use Rattle.xs_machine.specs.declared.machine.Task.TheVariants as task
-use Rattle.xs_machine.specs.Arena.{function_of, row_of, tree_at, trees_at}
-use Rattle.xs_machine.specs.Machine.{Mach, function_at, Work, DoTree, DoTrees, DoBlock, SetVar, Operate, ConvertTop, DoRow, Branch, ForgetTop, DropTop, Enter, Leave}
+use Rattle.xs_ccheck.specs.Arena.{row_of, tree_at, trees_at}
+use Rattle.xs_ccheck.specs.Functions.{code_of}
+use Rattle.xs_machine.specs.Machine.{Mach, Work, DoTree, DoTrees, DoBlock, SetVar, Operate, ConvertTop, DoRow, Branch, ForgetTop, DropTop, Enter, Leave}
 use Rattle.xs_machine.specs.State.{Effect, Gives, Ends, Out, Done, State, operate, with_store}
 use Rattle.xs_machine.specs.State as state
 use Rattle.xs_machine.specs.Rows.{new_mortal}
@@ -23,7 +23,7 @@ use Rattle.xs_machine.specs.declared.api.Stop.TheVariants as stop
 use Rattle.xs_values.specs.declared.plain.Plain.{Plain}
 use Rattle.xs_machine.specs.declared.api.Abrupt.TheVariants.{Traps}
 use Rattle.xs_values.specs.declared.operator.Op.{Op}
-use Rattle.xs_machine.specs.Tree.{Code, Function}
+use Rattle.xs_ccheck.specs.Tree.{Code}
 use Rattle.xs_machine.specs.World.{Swept, Clean, Dirty, World}
 
 abbrev pub world_of : Perl → World
@@ -37,9 +37,6 @@ world_of p =
       scopes = reverse p.stacks.scopes.items;
       names = reverse p.names.items;
     }
-
-abbrev pub code_of : Typed → Code
-code_of t = record { functions = map (function_of (t.texts.items) t.nodes.items) t.functions.items }
 
 abbrev pub task_of : Typed → Task → Work
 task_of t (task.DoTree i) = DoTree (tree_at t.texts.items t.nodes.items i)
@@ -81,11 +78,6 @@ Sweeps e (Err t) w = e ≡ Dirty t w
 -- the file that a machine runs
 abbrev pub code_in : Machine → Code
 code_in m = code_of m.typed
-
--- the function of a number, as the machine enters it: how many slots it has, and the place of its body
-abbrev pub Callee : Typed → Option ℕ → Option Callable → Type 0
-Callee t f None = function_at (code_of t) f ≡ None
-Callee t f (Some e) = (g : Function) × (function_at (code_of t) f ≡ Some g) × ((g.slots ≡ e.slots) × (g.body ≡ tree_at t.texts.items t.nodes.items e.body))
 
 -- a value or a trap
 abbrev pub given_or : Result Operand Trap → State World → Out World Operand

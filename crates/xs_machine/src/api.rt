@@ -1,17 +1,17 @@
 //! The rows of Perl's API, on counted scalars and Perl's stacks.
 ghost use Rattle.std.specs.Prelude.{◌≡◌, ◌-◌, ◌≤ℤ◌, ◌^◌, [], IfOk, Err, drop, neg_ℤ, pos, slice_index_or, take};
-ghost use Rattle.xs_machine.specs.Arena.{row_of};
+ghost use Rattle.xs_ccheck.specs.Arena.{row_of};
 ghost use Rattle.xs_machine.specs.Places.{Puts, place_of};
 ghost use Rattle.xs_machine.specs.Rows as rows;
 ghost use Rattle.xs_machine.specs.Views.{Does, Sweeps, world_of};
 ghost use Rattle.xs_machine.specs.World as world;
 ghost use Rattle.xs_machine.specs.World.{free_above};
 
-use crate::ccheck::{RowNode, Typed};
 use crate::heap::{Heap, HeapFail};
 use crate::stacks::{Depths, Stacks, pop_top, push_top};
 use std::alloc::Global;
 use xs_base::{Bytes, Items, Memory};
+use xs_ccheck::{RowNode, Typed};
 use xs_values::{CInt, Kind, Name, Plain, Trap, to_iv, wrap};
 
 /// How many items the argument list may have.

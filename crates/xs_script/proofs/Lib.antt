@@ -2,7 +2,6 @@ pub mod LexSteps
 pub mod SpelledDone
 pub mod SpelledSound
 pub mod Views
-pub mod Digits
 pub mod Arounds
 pub mod Turns
 pub mod Lines

@@ -12,11 +12,11 @@ use Rattle.xs_script.specs.declared.token.Token.TheVariants as token
 use Rattle.xs_script.specs.declared.token.Mark.{Mark}
 use Rattle.xs_script.specs.declared.token.Mark.TheVariants as mark
 use Rattle.xs_script.specs.Expr as p
-use Rattle.xs_script.specs.Expr.{Expr, exprs_of, entries_of}
+use Rattle.xs_script.specs.Expr.{Expr}
 use Rattle.xs_script.specs.Form as f
-use Rattle.xs_script.specs.Form.{Form, Forms, Pairs}
+use Rattle.xs_script.specs.Form.{Form}
 use Rattle.xs_script.specs.Grammar as g
-use Rattle.xs_script.specs.Grammar.{Stands, Elements, Entries, NamesSub}
+use Rattle.xs_script.specs.Grammar.{Stands, NamesSub}
 use Rattle.xs_script.specs.Input.{Input, Outcome, Reader, and_then, head_is, is_mark, is_word, mark_byte, tail, sees, sees_word, next, kind_of, after_word, expect, name, name_at, number, number_at, text, text_at, sub_name, sub_at, taken, named, exceeded, noted, pure, refuse, ◌>>=◌, ◌>>◌, ◌<$>◌}
 use Rattle.xs_script.specs.Numbers.{number_of, argument_of}
 use Rattle.xs_script.specs.Value.{simple, simple_by, by_name, reference, variable, argument, whole_number, ranged}

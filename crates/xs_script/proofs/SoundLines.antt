@@ -9,7 +9,7 @@ use Rattle.xs_script.specs.Expr.{Expr, Act, Said}
 use Rattle.xs_script.specs.Form as f
 use Rattle.xs_script.specs.Form.{Form, Deed, Written}
 use Rattle.xs_script.specs.Grammar as g
-use Rattle.xs_script.specs.Grammar.{Stands, NamesSub, SomeArguments, Arguments, Does, AllDo, Command}
+use Rattle.xs_script.specs.Grammar.{Stands, SomeArguments, Arguments, Does, AllDo, Command}
 use Rattle.xs_script.specs.Input.{Input, tail, kind_at, sees, sees_word, next, kind_of, left, after, after_word, expect, name, text, sub_name, told, pure, refuse, ended, ◌>>=◌, ◌>>◌, ◌<$>◌, eat, eat_word}
 use Rattle.xs_script.specs.Rules.{arguments_from, some_arguments, arguments, set_action, call_action, action, actions_from, actions, names_sub, sees_call, call_value, my_command, call_command, isa_command, sub_command, variable_command, by_word, at_end, command}
 use Rattle.xs_script.specs.Value.{value, variable, argument}

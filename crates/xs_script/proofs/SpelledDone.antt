@@ -13,7 +13,8 @@ use Rattle.xs_script.specs.declared.token.Mark.{Mark}
 use Rattle.xs_script.specs.declared.token.Mark.TheVariants as mark
 use Rattle.xs_script.specs.declared.token.Token.{Token}
 use Rattle.xs_script.specs.declared.token.Token.TheVariants as token
-use Rattle.xs_script.specs.Lex.{is_blank, is_digit, begins_word, is_in_word, is_in_path, begins_with, escape_value, is_path, name_front, name_of_len, number_front, number_of_len, text_front, front_of, tokens_from, tokens_of}
+use Rattle.xs_base.specs.Scanning.{begins_word, is_blank, is_digit, is_word_byte}
+use Rattle.xs_script.specs.Lex.{is_in_path, begins_with, escape_value, is_path, name_front, name_of_len, number_front, number_of_len, text_front, front_of, tokens_from, tokens_of}
 use Rattle.xs_script.specs.Spelling as sp
 use Rattle.xs_script.specs.Spelling.{IsIdentifier, IsPath, IsDigits, StandFor, Spelled, first_is, mark_text, goes_on}
 use Rattle.xs_script.proofs.LexSteps.{tokens_from-skip}
@@ -29,13 +30,13 @@ digit_not_blank b h = grind (arith, nat_tests)
 digit_not_word : (b : ℕ) → is_digit b ≡ true → begins_word b ≡ false
 digit_not_word b h = grind (arith, nat_tests)
 
-in_word_not_colon : (b : ℕ) → is_in_word b ≡ true → (b == 58) ≡ false
+in_word_not_colon : (b : ℕ) → is_word_byte b ≡ true → (b == 58) ≡ false
 in_word_not_colon b h = grind (arith, nat_tests)
 
-begins_in_word : (b : ℕ) → begins_word b ≡ true → is_in_word b ≡ true
+begins_in_word : (b : ℕ) → begins_word b ≡ true → is_word_byte b ≡ true
 begins_in_word b h = rw h refl
 
-in_word_in_path : (b : ℕ) → is_in_word b ≡ true → is_in_path b ≡ true
+in_word_in_path : (b : ℕ) → is_word_byte b ≡ true → is_in_path b ≡ true
 in_word_in_path b h = rw h refl
 
 pub and_first : (b c : Bool) → (b && c) ≡ true → b ≡ true
@@ -57,9 +58,9 @@ pub list_all-append : (p : ℕ → Bool) (a b : List ℕ) → list_all p a ≡ t
 list_all-append p [] b h e = e
 list_all-append p (x ∷ a) b h e = rw (and_first (p x) (list_all p a) h) (list_all-append p a b (and_second (p x) (list_all p a) h) e)
 
-list_all-in_path : (a : List ℕ) → list_all is_in_word a ≡ true → list_all is_in_path a ≡ true
+list_all-in_path : (a : List ℕ) → list_all is_word_byte a ≡ true → list_all is_in_path a ≡ true
 list_all-in_path [] h = refl
-list_all-in_path (x ∷ a) h = rw (in_word_in_path x (and_first (is_in_word x) (list_all is_in_word a) h)) (list_all-in_path a (and_second (is_in_word x) (list_all is_in_word a) h))
+list_all-in_path (x ∷ a) h = rw (in_word_in_path x (and_first (is_word_byte x) (list_all is_word_byte a) h)) (list_all-in_path a (and_second (is_word_byte x) (list_all is_word_byte a) h))
 
 identifier_in_path : (a : List ℕ) → IsIdentifier a → list_all is_in_path a ≡ true
 identifier_in_path [] h = absurd h
@@ -69,11 +70,11 @@ path_in_path : {n : List ℕ} → IsPath n → list_all is_in_path n ≡ true
 path_in_path (sp.one a i) = identifier_in_path a i
 path_in_path (sp.joined a {b = b} i x) = list_all-append is_in_path a (58 ∷ 58 ∷ b) (identifier_in_path a i) (path_in_path x)
 
-within_done : (a rest : List ℕ) → list_all is_in_word a ≡ true → is_path path.Within (a ++ rest) ≡ is_path path.Within rest
+within_done : (a rest : List ℕ) → list_all is_word_byte a ≡ true → is_path path.Within (a ++ rest) ≡ is_path path.Within rest
 within_done [] rest h = refl
 within_done (x ∷ a) rest h =
-    let first = and_first (is_in_word x) (list_all is_in_word a) h in
-    rw (in_word_not_colon x first, first) (within_done a rest (and_second (is_in_word x) (list_all is_in_word a) h))
+    let first = and_first (is_word_byte x) (list_all is_word_byte a) h in
+    rw (in_word_not_colon x first, first) (within_done a rest (and_second (is_word_byte x) (list_all is_word_byte a) h))
 
 identifier_done : (a rest : List ℕ) → IsIdentifier a → is_path path.First (a ++ rest) ≡ is_path path.Within rest
 identifier_done [] rest h = absurd h

@@ -12,7 +12,8 @@ use Rattle.xs_script.specs.declared.token.Mark.{Mark}
 use Rattle.xs_script.specs.declared.token.Mark.TheVariants as mark
 use Rattle.xs_script.specs.declared.token.Token.{Token}
 use Rattle.xs_script.specs.declared.token.Token.TheVariants as token
-use Rattle.xs_script.specs.Lex.{is_blank, is_digit, begins_word, is_in_word, is_in_path, begins_with, hex_value, escape_value, is_path, name_front, name_of_len, number_front, number_of_len, text_front, mark_front, single, alone, front_of, by_front, with_front, tokens_from, tokens_of, on_step, text_step, plainly, high_digit, low_digit, closes, listed}
+use Rattle.xs_base.specs.Scanning.{begins_word, is_blank, is_digit, is_word_byte}
+use Rattle.xs_script.specs.Lex.{is_in_path, begins_with, hex_value, escape_value, is_path, name_front, name_of_len, number_front, number_of_len, text_front, mark_front, single, alone, front_of, by_front, with_front, tokens_from, tokens_of, on_step, text_step, plainly, high_digit, low_digit, closes, listed}
 use Rattle.xs_script.specs.Spelling as sp
 use Rattle.xs_script.specs.Spelling.{IsIdentifier, IsPath, IsDigits, StandFor, Spelled, first_is, mark_text, goes_on}
 use Rattle.xs_script.proofs.LexSteps.{tokens_from-skip}
@@ -20,19 +21,19 @@ use Rattle.xs_script.proofs.SpelledDone.{and_first, and_second, list_all-append,
 
 -- ---- names
 
-identifier_more : (acc : List ℕ) (b : ℕ) → IsIdentifier acc → is_in_word b ≡ true → IsIdentifier (acc ++ b ∷ [])
+identifier_more : (acc : List ℕ) (b : ℕ) → IsIdentifier acc → is_word_byte b ≡ true → IsIdentifier (acc ++ b ∷ [])
 identifier_more [] b i w = absurd i
-identifier_more (c ∷ acc) b i w = (i.0, list_all-append is_in_word acc (b ∷ []) i.1 (rw w refl))
+identifier_more (c ∷ acc) b i w = (i.0, list_all-append is_word_byte acc (b ∷ []) i.1 (rw w refl))
 
 mutual
   within_sound : (acc bs : List ℕ) → IsIdentifier acc → is_path path.Within bs ≡ true → IsPath (acc ++ bs)
   within_sound acc [] i h = rw (append-nil acc) (sp.one acc i)
   within_sound acc (b ∷ bs) i h = by_colon (colon_sound acc bs i) (λ w. within_sound (acc ++ b ∷ []) bs (identifier_more acc b i w)) (b == 58) refl h
     where
-      by_colon : (is_path path.Colon bs ≡ true → IsPath (acc ++ 58 ∷ bs)) → (is_in_word b ≡ true → is_path path.Within bs ≡ true → IsPath ((acc ++ b ∷ []) ++ bs))
-          → (c : Bool) → (b == 58) ≡ c → (if c then is_path path.Colon bs else (is_in_word b && is_path path.Within bs)) ≡ true → IsPath (acc ++ b ∷ bs)
+      by_colon : (is_path path.Colon bs ≡ true → IsPath (acc ++ 58 ∷ bs)) → (is_word_byte b ≡ true → is_path path.Within bs ≡ true → IsPath ((acc ++ b ∷ []) ++ bs))
+          → (c : Bool) → (b == 58) ≡ c → (if c then is_path path.Colon bs else (is_word_byte b && is_path path.Within bs)) ≡ true → IsPath (acc ++ b ∷ bs)
       by_colon colon more true e h = subst (λ k. IsPath (acc ++ k ∷ bs)) (sym (eqb-true b 58 e)) (colon h)
-      by_colon colon more false e h = subst (λ l. IsPath l) (append_assoc acc (b ∷ []) bs) (more (and_first (is_in_word b) (is_path path.Within bs) h) (and_second (is_in_word b) (is_path path.Within bs) h))
+      by_colon colon more false e h = subst (λ l. IsPath l) (append_assoc acc (b ∷ []) bs) (more (and_first (is_word_byte b) (is_path path.Within bs) h) (and_second (is_word_byte b) (is_path path.Within bs) h))
 
   colon_sound : (acc bs : List ℕ) → IsIdentifier acc → is_path path.Colon bs ≡ true → IsPath (acc ++ 58 ∷ bs)
   colon_sound acc [] i h = absurd cc

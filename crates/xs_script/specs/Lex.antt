@@ -1,6 +1,7 @@
 -- The parts of a line.
 use Rattle.std.specs.List.{prefix_len}
 use Rattle.std.specs.Prelude.{ℕ, zero, suc, ◌+◌, ◌*◌, ◌-◌, Bool, true, false, not, ◌&&◌, ◌||◌, ◌==◌, if◌then◌else◌, nat_le, List, [], ◌∷◌, ◌++◌, take, drop, Option, Some, None}
+use Rattle.xs_base.specs.Scanning.{begins_word, is_blank, is_digit, is_word_byte}
 use Rattle.xs_script.specs.declared.token.Token.{Token}
 use Rattle.xs_script.specs.declared.token.Token.TheVariants as token
 use Rattle.xs_script.specs.declared.token.Mark.{Mark}
@@ -14,20 +15,8 @@ use Rattle.xs_script.specs.declared.lexing.TextPlace.TheVariants as text
 
 -- ---- bytes
 
-abbrev pub is_blank : ℕ → Bool
-is_blank b = b == 32 || b == 9
-
-abbrev pub is_digit : ℕ → Bool
-is_digit b = nat_le 48 b && nat_le b 57
-
-abbrev pub begins_word : ℕ → Bool
-begins_word b = (nat_le 65 b && nat_le b 90) || ((nat_le 97 b && nat_le b 122) || b == 95)
-
-abbrev pub is_in_word : ℕ → Bool
-is_in_word b = begins_word b || is_digit b
-
 abbrev pub is_in_path : ℕ → Bool
-is_in_path b = is_in_word b || b == 58
+is_in_path b = is_word_byte b || b == 58
 
 abbrev pub begins_with : ℕ → List ℕ → Bool
 begins_with b [] = false
@@ -47,7 +36,7 @@ abbrev pub is_path : PathPlace → List ℕ → Bool
 is_path path.First [] = false
 is_path path.First (b ∷ bs) = begins_word b && is_path path.Within bs
 is_path path.Within [] = true
-is_path path.Within (b ∷ bs) = if b == 58 then is_path path.Colon bs else (is_in_word b && is_path path.Within bs)
+is_path path.Within (b ∷ bs) = if b == 58 then is_path path.Colon bs else (is_word_byte b && is_path path.Within bs)
 is_path path.Colon [] = false
 is_path path.Colon (b ∷ bs) = b == 58 && is_path path.First bs
 

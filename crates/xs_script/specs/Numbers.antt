@@ -1,11 +1,8 @@
 -- The values of numbers as they stand.
-use Rattle.std.specs.Prelude.{ℕ, ◌+◌, ◌*◌, ◌-◌, ◌^◌, ◌==◌, if◌then◌else◌, nat_lt, nat_le, List, [], ◌∷◌, fold, Option, Some, None, pos, neg_ℤ}
+use Rattle.std.specs.Prelude.{ℕ, ◌-◌, ◌^◌, ◌==◌, if◌then◌else◌, nat_lt, nat_le, List, [], ◌∷◌, Option, Some, None, pos, neg_ℤ}
+use Rattle.xs_base.specs.Scanning.{value_of_digits}
 use Rattle.xs_script.specs.declared.command.Number.{Number}
 use Rattle.xs_script.specs.declared.command.Number.TheVariants.{Int, Uns}
-
--- the value of decimal digits
-abbrev pub magnitude : List ℕ → ℕ
-magnitude digits = fold (λ n b. 10 * n + (b - 48)) 0 digits
 
 abbrev pub some_number : Number → Option Number
 some_number n = Some n
@@ -19,7 +16,7 @@ negative n = if nat_le n (2 ^ 63) then Some (Int (neg_ℤ (pos n))) else None
 -- the value of an optional sign and digits, between -2^63 and 2^64 - 1
 abbrev pub number_of : List ℕ → Option Number
 number_of [] = positive 0
-number_of (b ∷ digits) = if b == 45 then negative (magnitude digits) else positive (magnitude (b ∷ digits))
+number_of (b ∷ digits) = if b == 45 then negative (value_of_digits digits) else positive (value_of_digits (b ∷ digits))
 
 abbrev pub small : ℕ → ℕ → Option ℕ
 small limit n = if nat_le n limit then Some n else None
@@ -27,4 +24,4 @@ small limit n = if nat_le n limit then Some n else None
 -- the value of an optional sign and digits, between 0 and 2^32 - 1
 abbrev pub argument_of : List ℕ → Option ℕ
 argument_of [] = Some 0
-argument_of (b ∷ digits) = if b == 45 then small 0 (magnitude digits) else small (2 ^ 32 - 1) (magnitude (b ∷ digits))
+argument_of (b ∷ digits) = if b == 45 then small 0 (value_of_digits digits) else small (2 ^ 32 - 1) (value_of_digits (b ∷ digits))

@@ -6,7 +6,7 @@ use Rattle.xs_script.specs.declared.token.Mark.TheVariants as mark
 use Rattle.xs_script.specs.Expr as p
 use Rattle.xs_script.specs.Expr.{Expr, Act, Said}
 use Rattle.xs_script.specs.Input as i
-use Rattle.xs_script.specs.Input.{Input, Outcome, Reader, ◌>>=◌, ◌>>◌, ◌<$>◌, pure, refuse, peek, eat, eat_word, expect, sees_word, kind_of, next, left}
+use Rattle.xs_script.specs.Input.{Input, Reader, ◌>>=◌, ◌>>◌, ◌<$>◌, pure, refuse, eat, eat_word, expect, sees_word, kind_of, next, left}
 use Rattle.xs_script.specs.Value.{value, variable, argument}
 
 -- the arguments of a call behind the opening parenthesis and its first argument; each takes a part, so that the count of the parts is enough

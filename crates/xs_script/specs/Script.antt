@@ -15,7 +15,8 @@ use Rattle.xs_script.specs.View.{said}
 use Rattle.xs_script.specs.Expr as p
 use Rattle.xs_script.specs.Expr.{Said}
 use Rattle.xs_script.specs.Input.{Input, Outcome, start_of, met}
-use Rattle.xs_script.specs.Lex.{is_blank, tokens_of}
+use Rattle.xs_base.specs.Scanning.{behind_blanks}
+use Rattle.xs_script.specs.Lex.{tokens_of}
 use Rattle.xs_script.specs.Rules.{command}
 use Rattle.xs_script.specs.Scope.{holds}
 use Rattle.xs_script.specs.Value.{max_nesting}
@@ -111,10 +112,14 @@ first_fault scope line said met =
 
 -- ---- lines
 
+-- nothing, or what begins with `#`
+abbrev pub is_remark : List ℕ → Bool
+is_remark [] = true
+is_remark (b ∷ bs) = b == 35
+
 -- a line without a command: empty but for blanks, or with a `#` behind its blanks
 abbrev pub is_skipped : List ℕ → Bool
-is_skipped [] = true
-is_skipped (b ∷ bs) = if is_blank b then is_skipped bs else b == 35
+is_skipped text = is_remark (behind_blanks text)
 
 abbrev pub faulty : Option Fault → Said → Result (Option Said) Fault
 faulty (Some f) said = Err f

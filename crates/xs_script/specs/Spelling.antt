@@ -5,12 +5,13 @@ use Rattle.xs_script.specs.declared.token.Token.{Token}
 use Rattle.xs_script.specs.declared.token.Token.TheVariants as token
 use Rattle.xs_script.specs.declared.token.Mark.{Mark}
 use Rattle.xs_script.specs.declared.token.Mark.TheVariants as mark
-use Rattle.xs_script.specs.Lex.{is_blank, is_digit, begins_word, is_in_word, is_in_path, begins_with, hex_value, escape_value}
+use Rattle.xs_base.specs.Scanning.{begins_word, is_blank, is_digit, is_word_byte}
+use Rattle.xs_script.specs.Lex.{is_in_path, begins_with, hex_value, escape_value}
 
 -- a letter or `_`, and then letters, digits and `_`
 abbrev pub IsIdentifier : List ℕ → Type 0
 IsIdentifier [] = ⊥
-IsIdentifier (b ∷ bs) = (begins_word b ≡ true) × (list_all is_in_word bs ≡ true)
+IsIdentifier (b ∷ bs) = (begins_word b ≡ true) × (list_all is_word_byte bs ≡ true)
 
 -- identifiers joined by `::`
 pub data IsPath : List ℕ → Type 0 where

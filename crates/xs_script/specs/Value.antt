@@ -8,7 +8,7 @@ use Rattle.xs_script.specs.declared.token.Mark.TheVariants as mark
 use Rattle.xs_script.specs.Expr as p
 use Rattle.xs_script.specs.Expr.{Expr, exprs_of, entries_of}
 use Rattle.xs_script.specs.Input as i
-use Rattle.xs_script.specs.Input.{Input, Reader, ◌>>=◌, ◌>>◌, ◌<$>◌, pure, refuse, peek, eat, eat_word, expect, noted, named, exceeded, opened, left}
+use Rattle.xs_script.specs.Input.{Reader, ◌>>=◌, ◌>>◌, ◌<$>◌, pure, refuse, peek, eat, eat_word, expect, noted, named, exceeded, opened, left}
 use Rattle.xs_script.specs.Numbers.{number_of, argument_of}
 use Rattle.std.specs.Prelude.{pos}
 

@@ -1,6 +1,7 @@
 //! Cuts a line into the parts of a command.
-ghost use Rattle.std.specs.Prelude.{◌≡◌, [], ◌+◌, ◌++◌, ◌^◌, ◌<◌, ◌≤◌, IfOk, IfSome, OnOk, length};
+ghost use Rattle.std.specs.Prelude.{◌≡◌, [], ◌+◌, ◌++◌, ◌<◌, ◌≤◌, IfOk, IfSome, OnOk, length};
 ghost use Rattle.std.specs.List.{prefix_len};
+ghost use Rattle.xs_base.specs.Scanning.{is_digit};
 ghost use Rattle.xs_script.specs.Fits.{Fits, IsHexPlace};
 ghost use Rattle.xs_script.specs.Lex as spec;
 ghost use Rattle.xs_script.specs.declared.lexing.PathPlace.TheVariants as path;
@@ -9,7 +10,7 @@ ghost use Rattle.xs_script.specs.Telling.{Tells};
 
 use crate::token::{Front, Mark, Stop, Token};
 use std::alloc::Global;
-use xs_base::{Bytes, Items, Memory};
+use xs_base::{Bytes, Items, Memory, begins_word, is_blank, is_digit, is_word_byte};
 
 /// Which byte of identifiers joined by `::` comes next.
 #[derive(Clone, Copy, Debug, PartialEq, Eq)]
@@ -34,35 +35,10 @@ pub enum TextPlace {
     Low(u8),
 }
 
-/// Space and tab.
-pub fn is_blank(b: u8) -> bool
-    ensures { result ≡ spec.is_blank b }
-{
-    b == b' ' || b == b'\t'
-}
-
-fn is_digit(b: u8) -> bool
-    ensures { result ≡ spec.is_digit b }
-{
-    48 <= b && b <= 57
-}
-
-fn begins_word(b: u8) -> bool
-    ensures { result ≡ spec.begins_word b }
-{
-    65 <= b && b <= 90 || 97 <= b && b <= 122 || b == 95
-}
-
-fn is_in_word(b: u8) -> bool
-    ensures { result ≡ spec.is_in_word b }
-{
-    begins_word(b) || is_digit(b)
-}
-
 fn is_in_path(b: u8) -> bool
     ensures { result ≡ spec.is_in_path b }
 {
-    is_in_word(b) || b == b':'
+    is_word_byte(b) || b == b':'
 }
 
 fn hex_value(b: u8) -> Option<u8>
@@ -93,7 +69,7 @@ fn path_len(bytes: &[u8]) -> usize
 }
 
 fn digits_len(bytes: &[u8]) -> usize
-    ensures len { result ≡ prefix_len spec.is_digit bytes.now }
+    ensures len { result ≡ prefix_len is_digit bytes.now }
     ensures within { result ≤ length bytes.now }
 {
     let mut n = 0;
@@ -114,7 +90,7 @@ fn is_path(bytes: &[u8]) -> bool
     for b in bytes {
         place = match place {
             PathPlace::First if begins_word(*b) => PathPlace::Within,
-            PathPlace::Within if is_in_word(*b) => PathPlace::Within,
+            PathPlace::Within if is_word_byte(*b) => PathPlace::Within,
             PathPlace::Within if *b == b':' => PathPlace::Colon,
             PathPlace::Colon if *b == b':' => PathPlace::First,
             _ => return false,

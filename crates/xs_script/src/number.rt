@@ -1,26 +1,9 @@
 //! The values of numbers as they stand.
-ghost use Rattle.std.specs.Prelude.{◌≡◌, ◌^◌, ◌≤◌, IfNone, IfSome, neg_ℤ, pos};
+ghost use Rattle.std.specs.Prelude.{◌≡◌, ◌^◌, ◌≤◌, neg_ℤ, pos};
 ghost use Rattle.xs_script.specs.Numbers as spec;
 
 use crate::command::Number;
-
-/// The value of digits, if it has 64 bits.
-fn magnitude(digits: &[u8]) -> Option<u64>
-    ensures some { IfSome result (λ n. n ≡ spec.magnitude digits.now) }
-    ensures none { IfNone result (2 ^ 64 ≤ spec.magnitude digits.now) }
-{
-    let mut n: u64 = 0;
-    for b in digits {
-        let Some(tens) = n.checked_mul(10) else {
-            return None;
-        };
-        let Some(more) = tens.checked_add(b.saturating_sub(48) as u64) else {
-            return None;
-        };
-        n = more;
-    }
-    Some(n)
-}
+use xs_base::digits_value;
 
 fn negated(n: u64) -> i64
     requires { n ≤ 2 ^ 63 }
@@ -44,11 +27,11 @@ pub fn number_of(text: &[u8]) -> Option<Number>
     ensures { result ≡ spec.number_of text.now }
 {
     match text {
-        [b'-', digits @ ..] => match magnitude(digits) {
+        [b'-', digits @ ..] => match digits_value(digits) {
             Some(n) if n <= 1 << 63 => Some(Number::Int(negated(n))),
             _ => None,
         },
-        _ => match magnitude(text) {
+        _ => match digits_value(text) {
             Some(n) => Some(positive(n)),
             None => None,
         },
@@ -60,11 +43,11 @@ pub fn argument_of(text: &[u8]) -> Option<u32>
     ensures { result ≡ spec.argument_of text.now }
 {
     match text {
-        [b'-', digits @ ..] => match magnitude(digits) {
+        [b'-', digits @ ..] => match digits_value(digits) {
             Some(0) => Some(0),
             _ => None,
         },
-        _ => match magnitude(text) {
+        _ => match digits_value(text) {
             Some(n) if n <= u32::MAX as u64 => Some(n as u32),
             _ => None,
         },

@@ -1,8 +1,8 @@
 //! Commands and actions, by their rules.
-ghost use Rattle.std.specs.Prelude.{◌≡◌, map};
-ghost use Rattle.xs_script.specs.Input.{Reads, ended};
+ghost use Rattle.std.specs.Prelude.{◌≡◌};
+ghost use Rattle.xs_script.specs.Input.{Reads};
 ghost use Rattle.xs_script.specs.Rules as spec;
-ghost use Rattle.xs_script.specs.View.{act, acts_of, exprs_in, plain, said};
+ghost use Rattle.xs_script.specs.View.{act, acts_of, exprs_in, said};
 
 use crate::command::{Action, Command, E};
 use crate::cursor::Cursor;

@@ -1,5 +1,5 @@
 //! What the commands so far have declared.
-ghost use Rattle.std.specs.Prelude.{◌≡◌, ◌++◌, ◌∷◌, [], OnOk};
+ghost use Rattle.std.specs.Prelude.{◌≡◌};
 ghost use Rattle.xs_script.specs.Scope as spec;
 
 use std::alloc::Global;

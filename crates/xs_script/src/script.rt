@@ -11,13 +11,13 @@ ghost use Rattle.xs_script.specs.View.{said, said_all};
 
 use crate::command::Command;
 use crate::cursor::{Cursor, Met};
-use crate::lexing::{is_blank, tokens};
+use crate::lexing::tokens;
 use crate::reading::command;
 use crate::scope::{Scope, holds};
 use crate::token::Stop;
 use crate::value::MAX_NESTING;
 use std::alloc::Global;
-use xs_base::{Bytes, Fault, FileOf, Items, Line, Memory, Refuse, lines};
+use xs_base::{Bytes, Fault, FileOf, Items, Line, Memory, Refuse, behind_blanks, lines};
 
 /// How many commands a script may have.
 const MAX_COMMANDS: u32 = 10_000;
@@ -132,12 +132,10 @@ fn first_fault(
 fn is_skipped(text: &[u8]) -> bool
     ensures { result ≡ spec.is_skipped text.now }
 {
-    for b in text {
-        if !is_blank(*b) {
-            return *b == b'#';
-        }
+    match behind_blanks(text) {
+        [] => true,
+        [b, ..] => *b == b'#',
     }
-    true
 }
 
 /// The command of a line, if it has one, or its first fault.

@@ -1,7 +1,6 @@
 //! Expressions. Brackets are kept in a list, so that no line is too deep to read.
-ghost use Rattle.std.specs.Prelude.{◌≡◌, ◌++◌, ◌∷◌, [], IfOk, map};
+ghost use Rattle.std.specs.Prelude.{◌≡◌, IfOk, map};
 ghost use Rattle.xs_script.specs.Brackets.{around_of, bracket, entry};
-ghost use Rattle.xs_script.specs.Expr as p;
 ghost use Rattle.xs_script.specs.Input.{Reads};
 ghost use Rattle.xs_script.specs.Partial.{partial_of};
 ghost use Rattle.xs_script.specs.Value as spec;

@@ -1,12 +1,14 @@
 -- The lines of the XS part that are no comments, from the first MODULE line on.
 use Rattle.std.proofs.Common.{◌≡◌, ℕ, Bool, true, false, ◌&&◌, ◌==◌, List, [], ◌∷◌, refl, ap, sym, subst, ◌∙◌, arith}
+use Rattle.std.specs.List.{list_all}
 use Rattle.std.specs.Prelude.{codes}
 use Rattle.std.specs.Str.{bytes_eq}
 use Rattle.std.proofs.lemmas.Bool.{false≢true}
 use Rattle.std.proofs.lemmas.Bool.Decides.{nat_tests}
 use Rattle.std.proofs.lemmas.Slice.Eq.{bytes_eq-Decides}
 use Rattle.xs_base.specs.declared.place.Line.{Line}
-use Rattle.xs_sections.specs.Text.{is_blank, begins_word, is_in_word, is_identifier, is_rest_of_word, trimmed, front, begins_with_byte}
+use Rattle.xs_base.specs.Scanning.{begins_word, behind_blanks, is_blank, is_identifier, is_word_byte}
+use Rattle.xs_sections.specs.Text.{front, begins_with_byte}
 use Rattle.xs_sections.specs.Marks.{is_comment, is_module_line}
 use Rattle.xs_sections.specs.Classes.{Tag, class_of, place_behind, pod_behind, gap_behind, further_behind, blank_behind, tag_of, tags_from, tags_of}
 use Rattle.xs_sections.specs.Laws.{IsOf, from_module, without_comments}
@@ -27,15 +29,15 @@ tag class line starts = record { line = line; class = class; starts = starts }
 
 -- a line whose first word is MODULE
 module_no_comment : (text : List ℕ) → is_module_line text ≡ true → is_comment text ≡ false
-module_no_comment text h = by_text (trimmed text) h
+module_no_comment text h = by_text (behind_blanks text) h
   where
-    by_byte : (c : Bool) (b : ℕ) (bs : List ℕ) → (b == 35) ≡ c → bytes_eq (front is_in_word (b ∷ bs)) (codes "MODULE") ≡ true → c ≡ false
+    by_byte : (c : Bool) (b : ℕ) (bs : List ℕ) → (b == 35) ≡ c → bytes_eq (front is_word_byte (b ∷ bs)) (codes "MODULE") ≡ true → c ≡ false
     by_byte true b bs e m =
-        let at : is_in_word b ≡ false = grind (arith, nat_tests) in
-        let none : bytes_eq (front is_in_word (b ∷ bs)) (codes "MODULE") ≡ false = rw at refl in absurd (false≢true (sym none ∙ m))
+        let at : is_word_byte b ≡ false = grind (arith, nat_tests) in
+        let none : bytes_eq (front is_word_byte (b ∷ bs)) (codes "MODULE") ≡ false = rw at refl in absurd (false≢true (sym none ∙ m))
     by_byte false b bs e m = refl
 
-    by_text : (rest : List ℕ) → bytes_eq (front is_in_word rest) (codes "MODULE") ≡ true → begins_with_byte (λ b. b == 35) rest ≡ false
+    by_text : (rest : List ℕ) → bytes_eq (front is_word_byte rest) (codes "MODULE") ≡ true → begins_with_byte (λ b. b == 35) rest ≡ false
     by_text [] m = refl
     by_text (b ∷ bs) m = by_byte (b == 35) b bs refl m
 
@@ -52,7 +54,7 @@ and_left false b e = e
 
 identifier_no_comment : (text : List ℕ) → is_identifier text ≡ true → is_comment text ≡ false
 identifier_no_comment [] h = refl
-identifier_no_comment (b ∷ bs) h = word_no_comment b bs (and_left (begins_word b) (is_rest_of_word bs) h)
+identifier_no_comment (b ∷ bs) h = word_no_comment b bs (and_left (begins_word b) (list_all is_word_byte bs) h)
 
 -- the end word of the block that stands open is an identifier
 abbrev HasWord : Place → Type 0

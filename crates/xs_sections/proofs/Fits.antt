@@ -3,7 +3,8 @@ use Rattle.std.proofs.Common.{◌≡◌, ℕ, Bool, true, false, not, ◌&&◌, 
 use Rattle.std.specs.Prelude.{codes}
 use Rattle.std.specs.Str.{bytes_eq}
 use Rattle.xs_base.specs.declared.place.Line.{Line}
-use Rattle.xs_sections.specs.Text.{is_empty, trimmed, front, behind_front, begins_with_byte, is_capital}
+use Rattle.xs_base.specs.Scanning.{behind_blanks, is_blank_line}
+use Rattle.xs_sections.specs.Text.{front, behind_front, begins_with_byte, is_capital}
 use Rattle.xs_sections.specs.Marks.{begins_pod, ends_pod, is_comment, is_directive, is_module_line, begins_with}
 use Rattle.xs_sections.specs.ModuleLine.{module_class, class_by_names, module_names}
 use Rattle.xs_sections.specs.Keywords as keyword
@@ -113,18 +114,18 @@ module _ (at : Place) (lines : List Line) where
     behind_word_fits word (b ∷ value) line = by_if (b == 58) (word_fits word value line) (text_fits line)
 
     head_fits : (line : List ℕ) → F (keyword.head_class line)
-    head_fits line = behind_word_fits (front is_capital line) (trimmed (behind_front is_capital line)) line
+    head_fits line = behind_word_fits (front is_capital line) (behind_blanks (behind_front is_capital line)) line
 
   paragraph_fits : IsHead at → Good at lines → (text : List ℕ) → F (paragraph_class at text)
   paragraph_fits h good text = by_text (is_in_text at) refl
     where
       by_text : (b : Bool) → is_in_text at ≡ b
-          → F (if is_empty text then (if b then class.Blank else class.Outside) else (if b && not (opens_paragraph at text) then class.Further else keyword.head_class text))
+          → F (if is_blank_line text then (if b then class.Blank else class.Outside) else (if b && not (opens_paragraph at text) then class.Further else keyword.head_class text))
       by_text true e =
           let going : IsGoing at lines = record { no_map = h.no_map; no_c = h.no_c; some = good e } in
-          by_if (is_empty text) (can class.Blank going) (by_if (not (opens_paragraph at text)) (can class.Further going) (head_fits h text))
+          by_if (is_blank_line text) (can class.Blank going) (by_if (not (opens_paragraph at text)) (can class.Further going) (head_fits h text))
       by_text false e =
-          by_if (is_empty text) (can class.Outside (record { no_map = h.no_map; no_c = h.no_c; no_text = e })) (head_fits h text)
+          by_if (is_blank_line text) (can class.Outside (record { no_map = h.no_map; no_c = h.no_c; no_text = e })) (head_fits h text)
 
   xs_fits : IsHead at → Good at lines → (text : List ℕ) → F (xs_class at text)
   xs_fits h good text = by_if (is_comment text) (comment_fits h.no_c text) (by_if (is_module_line text) (module_fits h.no_map text) (paragraph_fits h good text))

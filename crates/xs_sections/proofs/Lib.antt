@@ -1,4 +1,3 @@
-pub mod TextSteps
 pub mod Fits
 pub mod Whole
 pub mod Meanings
@@ -10,3 +9,4 @@ pub mod Bare
 pub mod Only
 pub mod LastModule
 pub mod Hold
+pub mod Named

@@ -3,7 +3,8 @@ use Rattle.std.proofs.Common.{◌≡◌, ℕ, Bool, true, false, not, ◌&&◌, 
 use Rattle.std.specs.Prelude.{codes, option_and_then}
 use Rattle.std.specs.Str.{bytes_eq}
 use Rattle.std.proofs.lemmas.Bool.{false≢true}
-use Rattle.xs_sections.specs.Text.{is_empty, trimmed, front, behind_front, behind, begins_with_byte, is_capital, is_in_word, is_identifier}
+use Rattle.xs_base.specs.Scanning.{after_word, behind_blanks, is_blank_line, is_identifier, is_word_byte}
+use Rattle.xs_sections.specs.Text.{front, behind_front, begins_with_byte, is_capital}
 use Rattle.xs_sections.specs.Marks.{begins_pod, ends_pod, is_comment, is_directive, is_module_line, begins_with}
 use Rattle.xs_sections.specs.ModuleLine.{module_class, class_by_names, module_names}
 use Rattle.xs_sections.specs.Keywords as keyword
@@ -95,13 +96,13 @@ end_is [] end e = absurd cc
 end_is (b ∷ bs) end e = by_quotes (b == 34 || b == 39) e
   where
     by_quotes : (q : Bool)
-        → (if q then keyword.quoted_word b (front is_in_word bs) (behind_front is_in_word bs) else keyword.end_word_of (front is_in_word (b ∷ bs)) (behind_front is_in_word (b ∷ bs))) ≡ Some end
+        → (if q then keyword.quoted_word b (front is_word_byte bs) (behind_front is_word_byte bs) else keyword.end_word_of (front is_word_byte (b ∷ bs)) (behind_front is_word_byte (b ∷ bs))) ≡ Some end
         → is_identifier end ≡ true
-    by_quotes true h = quoted_is b (front is_in_word bs) (behind_front is_in_word bs) end h
-    by_quotes false h = end_word_is (front is_in_word (b ∷ bs)) (behind_front is_in_word (b ∷ bs)) end h
+    by_quotes true h = quoted_is b (front is_word_byte bs) (behind_front is_word_byte bs) end h
+    by_quotes false h = end_word_is (front is_word_byte (b ∷ bs)) (behind_front is_word_byte (b ∷ bs)) end h
 
 block_end_word : (value end : List ℕ) → keyword.block_end value ≡ Some end → is_identifier end ≡ true
-block_end_word value end e = by_mark (behind (codes "<<") value) e
+block_end_word value end e = by_mark (after_word (codes "<<") value) e
   where
     by_mark : (o : Option (List ℕ)) → option_and_then keyword.end_word o ≡ Some end → is_identifier end ≡ true
     by_mark None h = absurd cc
@@ -149,7 +150,7 @@ module _ (line : List ℕ) where
   behind_word_heads word (b ∷ value) = by_if (b == 58) (word_heads word value) text_heads
 
   head_heads : Heads line (keyword.head_class line)
-  head_heads = behind_word_heads (front is_capital line) (trimmed (behind_front is_capital line))
+  head_heads = behind_word_heads (front is_capital line) (behind_blanks (behind_front is_capital line))
 
   -- a line that is read as the first of a paragraph is no BOOT line
   pub first_no_boot : keyword.head_class line ≡ class.First → begins_with (codes "BOOT:") line ≡ false
@@ -196,19 +197,19 @@ module _ (at : Place) (text : List ℕ) where
     paragraph_means : IsPlain text → M (paragraph_class at text)
     paragraph_means plain = by_text (is_in_text at) refl
       where
-        line : (b : Bool) → is_empty text ≡ b → IsLine text b
+        line : (b : Bool) → is_blank_line text ≡ b → IsLine text b
         line b e = record { plain = plain; empty_is = e }
 
-        by_end : (o : Bool) → opens_paragraph at text ≡ o → is_in_text at ≡ true → is_empty text ≡ false → M (if not o then class.Further else keyword.head_class text)
+        by_end : (o : Bool) → opens_paragraph at text ≡ o → is_in_text at ≡ true → is_blank_line text ≡ false → M (if not o then class.Further else keyword.head_class text)
         by_end true e t l = head_means (line false l) (λ h. e)
         by_end false e t l = record { is_of = line false l; stands = record { in_text = t; no_end = e }; no_pod = refl }
 
         by_text : (b : Bool) → is_in_text at ≡ b
-            → M (if is_empty text then (if b then class.Blank else class.Outside) else (if b && not (opens_paragraph at text) then class.Further else keyword.head_class text))
+            → M (if is_blank_line text then (if b then class.Blank else class.Outside) else (if b && not (opens_paragraph at text) then class.Further else keyword.head_class text))
         by_text true t =
-            by_test (is_empty text) (λ e. record { is_of = line true e; stands = t; no_pod = refl }) (λ e. by_end (opens_paragraph at text) refl t e)
+            by_test (is_blank_line text) (λ e. record { is_of = line true e; stands = t; no_pod = refl }) (λ e. by_end (opens_paragraph at text) refl t e)
         by_text false t =
-            by_test (is_empty text) (λ e. record { is_of = line true e; stands = t; no_pod = refl }) (λ e. head_means (line false e) (λ h. absurd (false≢true (sym t ∙ h))))
+            by_test (is_blank_line text) (λ e. record { is_of = line true e; stands = t; no_pod = refl }) (λ e. head_means (line false e) (λ h. absurd (false≢true (sym t ∙ h))))
 
     xs_means : M (xs_class at text)
     xs_means =

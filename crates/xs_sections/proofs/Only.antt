@@ -5,12 +5,13 @@ use Rattle.std.specs.Str.{bytes_eq}
 use Rattle.std.proofs.lemmas.Bool.{false≢true}
 use Rattle.std.proofs.lemmas.List.Elements.{All-head, All-tail}
 use Rattle.xs_base.specs.declared.place.Line.{Line}
-use Rattle.xs_sections.specs.Text.{is_empty, is_in_word, is_blank, trimmed, front}
+use Rattle.xs_base.specs.Scanning.{behind_blanks, is_blank, is_blank_line, is_word_byte}
+use Rattle.xs_sections.specs.Text.{front}
 use Rattle.xs_sections.specs.Marks.{begins_with, begins_pod, ends_pod, is_module_line}
 use Rattle.xs_sections.specs.ModuleLine.{module_names}
 use Rattle.xs_sections.specs.Keywords.{head_class}
 use Rattle.xs_sections.specs.Cut.{map_of, paragraph_of}
-use Rattle.xs_sections.specs.Laws.{IsPlain, IsLine, IsHeadLine, IsParagraphHead, IsParagraph, HoldsTogether, EndsAtGap, EndsBefore, last_line, WithoutPod, XsPart, before_module, from_module, without_comments, IsSplit, IsOnlySplit}
+use Rattle.xs_sections.specs.Laws.{IsPlain, IsHeadLine, IsParagraphHead, IsParagraph, HoldsTogether, EndsAtGap, EndsBefore, last_line, WithoutPod, XsPart, before_module, from_module, without_comments, IsSplit, IsOnlySplit}
 use Rattle.xs_sections.specs.Laws as law
 use Rattle.xs_sections.specs.declared.class.Class.{Class}
 use Rattle.xs_sections.specs.declared.class.Class.TheVariants as class
@@ -73,12 +74,12 @@ IsPlainLine l = IsPlain l.text
 record Goes (first last : Line) (ls rest : List Line) : Type 0 where
   plain : All IsPlainLine ls
   together : HoldsTogether last ls
-  last_gap : begins_with (codes "BOOT:") first.text ≡ true → is_empty last.text ≡ true → ls ≡ []
+  last_gap : begins_with (codes "BOOT:") first.text ≡ true → is_blank_line last.text ≡ true → ls ≡ []
   gap : begins_with (codes "BOOT:") first.text ≡ true → EndsAtGap ls
   ends : EndsBefore first (last_line last ls) rest
 
 no_more : (first last y : Line) (g : List Line) (rest : List Line) → EndsBefore first last (y ∷ rest) → All IsPlainLine (y ∷ g) → HoldsTogether last (y ∷ g)
-    → (begins_with (codes "BOOT:") first.text ≡ true → is_empty last.text ≡ true → y ∷ g ≡ []) → ⊥
+    → (begins_with (codes "BOOT:") first.text ≡ true → is_blank_line last.text ≡ true → y ∷ g ≡ []) → ⊥
 no_more first last y g rest (inl m) plain together gap =
     let p : IsPlain y.text = All-head IsPlainLine y g plain in false≢true (sym p.no_module ∙ m)
 no_more first last y g rest (inr (empty, inl boot)) plain together gap = let no_line : y ∷ g ≡ [] = gap boot empty in cc
@@ -143,22 +144,22 @@ kind_by false true c = Sets
 kind_by false false c = kind_of_class c
 
 abbrev kind : List ℕ → Kind
-kind text = kind_by (is_empty text) (is_module_line text) (head_class text)
+kind text = kind_by (is_blank_line text) (is_module_line text) (head_class text)
 
-empty_trimmed : (text : List ℕ) → is_empty text ≡ true → trimmed text ≡ []
+empty_trimmed : (text : List ℕ) → is_blank_line text ≡ true → behind_blanks text ≡ []
 empty_trimmed [] e = refl
 empty_trimmed (b ∷ bs) e = by_blank (is_blank b) (λ h. empty_trimmed bs h) e
   where
-    by_blank : (c : Bool) → (is_empty bs ≡ true → trimmed bs ≡ []) → (if c then is_empty bs else false) ≡ true → (if c then trimmed bs else b ∷ bs) ≡ []
+    by_blank : (c : Bool) → (is_blank_line bs ≡ true → behind_blanks bs ≡ []) → (if c then is_blank_line bs else false) ≡ true → (if c then behind_blanks bs else b ∷ bs) ≡ []
     by_blank true ih h = ih h
     by_blank false ih h = absurd (false≢true h)
 
-module_not_empty : (text : List ℕ) → is_module_line text ≡ true → is_empty text ≡ false
-module_not_empty text m = by_empty (is_empty text) refl
+module_not_empty : (text : List ℕ) → is_module_line text ≡ true → is_blank_line text ≡ false
+module_not_empty text m = by_empty (is_blank_line text) refl
   where
-    by_empty : (b : Bool) → is_empty text ≡ b → b ≡ false
+    by_empty : (b : Bool) → is_blank_line text ≡ b → b ≡ false
     by_empty true e =
-        let none : is_module_line text ≡ false = ap (λ (rest : List ℕ). bytes_eq (front is_in_word rest) (codes "MODULE")) (empty_trimmed text e) in
+        let none : is_module_line text ≡ false = ap (λ (rest : List ℕ). bytes_eq (front is_word_byte rest) (codes "MODULE")) (empty_trimmed text e) in
         absurd (false≢true (sym none ∙ m))
     by_empty false e = refl
 

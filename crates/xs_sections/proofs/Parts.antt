@@ -4,8 +4,7 @@ use Rattle.std.specs.List.{flat_map}
 use Rattle.std.proofs.lemmas.Bool.{false≢true}
 use Rattle.std.proofs.lemmas.List.Elements.{All-nil, All-cons, All-append}
 use Rattle.xs_base.specs.declared.place.Line.{Line}
-use Rattle.xs_sections.specs.Text as text
-use Rattle.xs_sections.specs.Text.{is_empty}
+use Rattle.xs_base.specs.Scanning.{is_blank, is_blank_line}
 use Rattle.xs_sections.specs.Marks.{is_flush_left}
 use Rattle.xs_sections.specs.Classes.{Tag, class_of, is_in_text, opens_paragraph, place_behind, pod_behind, gap_behind, further_behind, blank_behind, tag_of, tags_from, tags_of}
 use Rattle.xs_sections.specs.Cut.{paragraph_lines, map_lines, lines_in, names_behind, paragraph_of, map_of, part_at, parts_of}
@@ -158,17 +157,17 @@ nothing last (l ∷ ls) e = absurd cc
 -- The last line of a paragraph may be empty behind a gap alone.
 abbrev Follows : Place → Line → Type 0
 Follows place.BodyGap last = Unit {0}
-Follows _ last = is_empty last.text ≡ false
+Follows _ last = is_blank_line last.text ≡ false
 
-empty_not_flush : (bytes : List ℕ) → is_empty bytes ≡ true → is_flush_left bytes ≡ false
+empty_not_flush : (bytes : List ℕ) → is_blank_line bytes ≡ true → is_flush_left bytes ≡ false
 empty_not_flush [] e = refl
-empty_not_flush (b ∷ bs) e = by_blank (text.is_blank b) refl e
+empty_not_flush (b ∷ bs) e = by_blank (is_blank b) refl e
   where
-    by_blank : (c : Bool) → text.is_blank b ≡ c → (if c then is_empty bs else false) ≡ true → not (text.is_blank b) ≡ false
+    by_blank : (c : Bool) → is_blank b ≡ c → (if c then is_blank_line bs else false) ≡ true → not (is_blank b) ≡ false
     by_blank true f e = rw f refl
     by_blank false f e = absurd (false≢true e)
 
-follows_further : (at : Place) (l : Line) → is_empty l.text ≡ false → Follows (further_behind at) l
+follows_further : (at : Place) (l : Line) → is_blank_line l.text ≡ false → Follows (further_behind at) l
 follows_further place.Boot l e = e
 follows_further _ l e = e
 
@@ -176,7 +175,7 @@ follows_blank : (at : Place) (l : Line) → is_in_text (blank_behind at) ≡ tru
 follows_blank place.Boot l e = absurd (false≢true e)
 follows_blank _ l e = tt
 
-no_break : (at : Place) (last next : Line) → Follows at last → opens_paragraph at next.text ≡ false → is_empty last.text ≡ true → is_flush_left next.text ≡ false
+no_break : (at : Place) (last next : Line) → Follows at last → opens_paragraph at next.text ≡ false → is_blank_line last.text ≡ true → is_flush_left next.text ≡ false
 no_break place.BodyGap last next f o e = o
 no_break place.CPart last next f o e = absurd (false≢true (sym f ∙ e))
 no_break place.Between last next f o e = absurd (false≢true (sym f ∙ e))

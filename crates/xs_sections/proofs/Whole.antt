@@ -10,7 +10,7 @@ use Rattle.xs_base.specs.declared.place.Line.{Line}
 use Rattle.xs_sections.specs.Classes.{Tag, class_of, is_in_text, place_behind, pod_behind, gap_behind, further_behind, blank_behind, tag_of, tags_from, tags_of}
 use Rattle.xs_sections.specs.Cut.{paragraph_lines, map_lines, c_lines, last_names, last_module_line, paragraph_of, map_of, parts_of, sections_of, unless_fault}
 use Rattle.xs_sections.specs.Faults as fault
-use Rattle.xs_sections.specs.Faults.{fault_at, line_fault, room_fault, room_behind, line_faults, is_module, is_pod_begin, is_pod_end, is_map_begin, is_map_end, some_line, unless_behind, module_fault, still_open, pod_fault, map_fault, faults_of, earlier, first_of, paragraph_limit}
+use Rattle.xs_sections.specs.Faults.{fault_at, line_fault, room_fault, room_behind, line_faults, is_module, is_pod_begin, is_pod_end, is_map_end, unless_behind, pod_fault, map_fault, faults_of, earlier, first_of}
 use Rattle.xs_sections.specs.Marks as mark
 use Rattle.xs_sections.specs.Steps.{begun, noted, counted, closed_with, closed, acted, starts_at, step, run, is_c_part, is_map, module_noted, pod_noted_at, pod_noted, map_noted, open_noted, told, finished}
 use Rattle.xs_sections.specs.declared.class.Class.{Class}

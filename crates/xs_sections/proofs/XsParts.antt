@@ -5,7 +5,7 @@ use Rattle.std.specs.Str.{bytes_eq}
 use Rattle.std.proofs.lemmas.Bool.{false≢true}
 use Rattle.std.proofs.lemmas.List.Elements.{All-nil, All-cons, All-append}
 use Rattle.xs_base.specs.declared.place.Line.{Line}
-use Rattle.xs_sections.specs.Text.{is_empty}
+use Rattle.xs_base.specs.Scanning.{is_blank_line}
 use Rattle.xs_sections.specs.Marks.{is_flush_left, begins_with}
 use Rattle.xs_sections.specs.Classes.{Tag, class_of, is_in_text, is_head, place_behind, pod_behind, gap_behind, further_behind, blank_behind, tag_of, tags_from, tags_of}
 use Rattle.xs_sections.specs.Cut.{paragraph_lines, map_lines, lines_in, paragraph_of, map_of, parts_of, no_names}
@@ -70,12 +70,12 @@ last_push first [] l = refl
 last_push first (next ∷ further) l = last_push next further l
 
 abbrev LastAt : Place → Line → List Line → Type 0
-LastAt place.BodyGap first further = is_empty (last_line first further).text ≡ true
+LastAt place.BodyGap first further = is_blank_line (last_line first further).text ≡ true
 LastAt place.Boot first further = begins_with (codes "BOOT:") first.text ≡ true
 LastAt _ first further = Unit {0}
 
 record IsGap (first : Line) (further : List Line) (text : List ℕ) : Type 0 where
-  empty : is_empty (last_line first further).text ≡ true
+  empty : is_blank_line (last_line first further).text ≡ true
   flush : is_flush_left text ≡ true
 
 -- A paragraph ends before a line at which a new one begins.
@@ -253,8 +253,8 @@ module _ (l : Line) (ls : List Line) (starts : Bool) (pod : Bool) (ih : Rest ls)
   moved names first further rest parts x =
       let P : List Line → Type 0 = λ y. XsPart names (first ∷ y) parts in subst P (append_assoc further (l ∷ []) rest) x
 
-  empty_last : (first : Line) (further : List Line) → is_empty l.text ≡ true → is_empty (last_line first (further ++ l ∷ [])).text ≡ true
-  empty_last first further e = let P : Line → Type 0 = λ x. is_empty x.text ≡ true in subst P (sym (last_push first further l)) e
+  empty_last : (first : Line) (further : List Line) → is_blank_line l.text ≡ true → is_blank_line (last_line first (further ++ l ∷ [])).text ≡ true
+  empty_last first further e = let P : Line → Type 0 = λ x. is_blank_line x.text ≡ true in subst P (sym (last_push first further l)) e
 
   further_at : (at : Place) (first : Line) (further : List Line) → is_in_text at ≡ true → LastAt at first further
       → (is_in_text (further_behind at) ≡ true) × LastAt (further_behind at) first (further ++ l ∷ [])
@@ -268,7 +268,7 @@ module _ (l : Line) (ls : List Line) (starts : Bool) (pod : Bool) (ih : Rest ls)
   further_at (place.Map end) first further t last = absurd (false≢true t)
 
   -- an empty line of a paragraph
-  by_blank : (at : Place) (names : ModuleNames) (room : ℕ) (first : Line) (further all : List Line) → is_in_text at ≡ true → is_empty l.text ≡ true
+  by_blank : (at : Place) (names : ModuleNames) (room : ℕ) (first : Line) (further all : List Line) → is_in_text at ≡ true → is_blank_line l.text ≡ true
       → further ++ l ∷ paragraph_lines (ts (blank_behind at)) ≡ all → IsParagraphHead first.text → IsParagraph first all → LastAt at first further → Clean room (ts (blank_behind at))
       → XsPart names (first ∷ further ++ l ∷ bare (ts (blank_behind at))) (paragraph_of names (first ∷ all) ∷ parts_of names (ts (blank_behind at)))
   by_blank place.Body names room first further all t e told head para last clean =

@@ -2,7 +2,7 @@
 use Rattle.std.specs.Prelude.{ℕ, Bool, true, false, not, ◌&&◌, if◌then◌else◌, List, [], ◌∷◌}
 use Rattle.std.specs.Str.{bytes_eq}
 use Rattle.xs_base.specs.declared.place.Line.{Line}
-use Rattle.xs_sections.specs.Text.{is_empty}
+use Rattle.xs_base.specs.Scanning.{is_blank_line}
 use Rattle.xs_sections.specs.Marks.{begins_pod, ends_pod, is_flush_left, is_comment, is_directive, is_module_line}
 use Rattle.xs_sections.specs.ModuleLine.{module_class}
 use Rattle.xs_sections.specs.Keywords.{head_class}
@@ -33,7 +33,7 @@ comment_class text = if is_directive text then class.Directive else class.Commen
 -- with that paragraph, or stands at the head of one
 abbrev pub paragraph_class : Place → List ℕ → Class
 paragraph_class at text =
-    if is_empty text then (if is_in_text at then class.Blank else class.Outside)
+    if is_blank_line text then (if is_in_text at then class.Blank else class.Outside)
     else (if is_in_text at && not (opens_paragraph at text) then class.Further else head_class text)
 
 -- a line of the XS part that is in no typemap block

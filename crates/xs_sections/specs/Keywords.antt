@@ -1,14 +1,15 @@
 -- What a line is that may begin a paragraph: a file keyword, or the first line of the paragraph itself.
 use Rattle.std.specs.Prelude.{ℕ, Bool, true, false, not, ◌&&◌, ◌||◌, ◌==◌, if◌then◌else◌, List, [], ◌∷◌, Option, None, Some, codes, option_and_then}
 use Rattle.std.specs.Str.{bytes_eq}
-use Rattle.xs_sections.specs.Text.{trimmed, front, behind_front, behind, begins_with_byte, is_capital, is_in_word, is_no_blank, is_identifier, is_empty}
+use Rattle.xs_base.specs.Scanning.{after_word, behind_blanks, is_blank_line, is_identifier, is_word_byte}
+use Rattle.xs_sections.specs.Text.{front, behind_front, begins_with_byte, is_capital, is_no_blank}
 use Rattle.xs_sections.specs.Marks.{begins_with}
 use Rattle.xs_sections.specs.declared.class.Class.{Class}
 use Rattle.xs_sections.specs.declared.class.Class.TheVariants.{Keyword, BadValue, LeftOut, MapBegin, First, FirstOfBoot}
 
 -- the one word of a value; no word where it has none or several
 abbrev pub only_word : List ℕ → List ℕ
-only_word value = if is_empty (behind_front is_no_blank (trimmed value)) then front is_no_blank (trimmed value) else []
+only_word value = if is_blank_line (behind_front is_no_blank (behind_blanks value)) then front is_no_blank (behind_blanks value) else []
 
 -- the value of PROTOTYPES and VERSIONCHECK
 abbrev pub is_switch : List ℕ → Bool
@@ -42,12 +43,12 @@ quoted_word quote word (b ∷ closing) = if b == quote then end_word_of word clo
 abbrev pub end_word : List ℕ → Option (List ℕ)
 end_word [] = None
 end_word (b ∷ bs) =
-    if b == 34 || b == 39 then quoted_word b (front is_in_word bs) (behind_front is_in_word bs)
-    else end_word_of (front is_in_word (b ∷ bs)) (behind_front is_in_word (b ∷ bs))
+    if b == 34 || b == 39 then quoted_word b (front is_word_byte bs) (behind_front is_word_byte bs)
+    else end_word_of (front is_word_byte (b ∷ bs)) (behind_front is_word_byte (b ∷ bs))
 
 -- the value of TYPEMAP: `<<` and the end word of the block
 abbrev pub block_end : List ℕ → Option (List ℕ)
-block_end word = option_and_then end_word (behind (codes "<<") word)
+block_end word = option_and_then end_word (after_word (codes "<<") word)
 
 -- the file keywords that are left out
 abbrev pub is_left_out : List ℕ → Bool
@@ -92,4 +93,4 @@ class_behind_word word [] line = text_class line
 class_behind_word word (b ∷ value) line = if b == 58 then word_class word value line else text_class line
 
 abbrev pub head_class : List ℕ → Class
-head_class line = class_behind_word (front is_capital line) (trimmed (behind_front is_capital line)) line
+head_class line = class_behind_word (front is_capital line) (behind_blanks (behind_front is_capital line)) line

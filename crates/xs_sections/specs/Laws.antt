@@ -6,7 +6,7 @@ use Rattle.xs_base.specs.declared.fault.Fault.{Fault}
 use Rattle.xs_base.specs.declared.fault.Refuse.{Refuse}
 use Rattle.xs_base.specs.declared.fault.Refuse.TheVariants as refuse
 use Rattle.xs_base.specs.declared.place.Line.{Line}
-use Rattle.xs_sections.specs.Text.{is_empty}
+use Rattle.xs_base.specs.Scanning.{is_blank_line}
 use Rattle.xs_sections.specs.Marks.{begins_with, begins_pod, ends_pod, is_flush_left, is_comment, is_directive, is_module_line}
 use Rattle.xs_sections.specs.ModuleLine.{module_names}
 use Rattle.xs_sections.specs.Keywords.{head_class}
@@ -41,7 +41,7 @@ pub record IsModule (text : List ℕ) (names : Option ModuleNames) : Type 0 wher
 
 pub record IsLine (text : List ℕ) (empty : Bool) : Type 0 where
   pub plain : IsPlain text
-  pub empty_is : is_empty text ≡ empty
+  pub empty_is : is_blank_line text ≡ empty
 
 -- a line that stands at the head of a paragraph, and reads as this there
 pub record IsHeadLine (text : List ℕ) (class : Class) : Type 0 where
@@ -139,16 +139,16 @@ without_comments (line ∷ lines) = if is_comment line.text then without_comment
 -- No empty line is followed by a line that begins with a byte that is no blank.
 abbrev pub HoldsTogether : Line → List Line → Type 0
 HoldsTogether line [] = Unit {0}
-HoldsTogether line (next ∷ lines) = (is_empty line.text ≡ true → is_flush_left next.text ≡ false) × HoldsTogether next lines
+HoldsTogether line (next ∷ lines) = (is_blank_line line.text ≡ true → is_flush_left next.text ≡ false) × HoldsTogether next lines
 
 -- An empty line is the last.
 abbrev pub EndsAtGap : List Line → Type 0
 EndsAtGap [] = Unit {0}
-EndsAtGap (line ∷ lines) = (is_empty line.text ≡ true → lines ≡ []) × EndsAtGap lines
+EndsAtGap (line ∷ lines) = (is_blank_line line.text ≡ true → lines ≡ []) × EndsAtGap lines
 
 -- A paragraph begins with a line that is not empty, and holds no POD, no comment and no MODULE line.
 pub record IsParagraph (first : Line) (further : List Line) : Type 0 where
-  pub some : is_empty first.text ≡ false
+  pub some : is_blank_line first.text ≡ false
   pub plain : All (λ (l : Line). IsPlain l.text) (first ∷ further)
   pub together : HoldsTogether first further
   pub boot : begins_with (codes "BOOT:") first.text ≡ true → EndsAtGap further
@@ -180,13 +180,13 @@ abbrev pub EndsBefore : Line → Line → List Line → Type 0
 EndsBefore first last [] = Unit {0}
 EndsBefore first last (next ∷ rest) =
     (is_module_line next.text ≡ true)
-    ⊎ ((is_empty last.text ≡ true) × ((begins_with (codes "BOOT:") first.text ≡ true) ⊎ (is_flush_left next.text ≡ true)))
+    ⊎ ((is_blank_line last.text ≡ true) × ((begins_with (codes "BOOT:") first.text ≡ true) ⊎ (is_flush_left next.text ≡ true)))
 
 -- The lines of the XS part, without POD and comments, and its parts: empty lines, MODULE lines, file keywords, typemap blocks and
 -- paragraphs stand there in a row. A MODULE line sets the names of the parts behind it.
 pub data XsPart : ModuleNames → List Line → List Part → Type 0 where
   done : {names : ModuleNames} → XsPart names [] []
-  gap : {names : ModuleNames} {line : Line} {lines : List Line} {parts : List Part} → is_empty line.text ≡ true → XsPart names lines parts → XsPart names (line ∷ lines) parts
+  gap : {names : ModuleNames} {line : Line} {lines : List Line} {parts : List Part} → is_blank_line line.text ≡ true → XsPart names lines parts → XsPart names (line ∷ lines) parts
   sets : {names : ModuleNames} (new : ModuleNames) {line : Line} {lines : List Line} {parts : List Part} → is_module_line line.text ≡ true → module_names line.text ≡ Some new
       → XsPart new lines parts → XsPart names (line ∷ lines) parts
   keyword : {names : ModuleNames} {line : Line} {lines : List Line} {parts : List Part} → IsHeadLine line.text class.Keyword → XsPart names lines parts → XsPart names (line ∷ lines) parts

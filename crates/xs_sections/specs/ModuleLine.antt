@@ -2,7 +2,8 @@
 -- at the end; a name or word ends before a blank.
 use Rattle.std.specs.Prelude.{ℕ, Bool, if◌then◌else◌, List, [], Option, None, Some, codes, option_and_then}
 use denote.Ref.{Bor}
-use Rattle.xs_sections.specs.Text.{trimmed, front, behind_front, behind, is_no_blank, is_name, is_identifier, is_empty}
+use Rattle.xs_base.specs.Scanning.{after_word, behind_blanks, is_blank_line, is_identifier}
+use Rattle.xs_sections.specs.Text.{front, behind_front, is_no_blank, is_name}
 use Rattle.xs_sections.specs.declared.class.ModuleNames.{ModuleNames}
 use Rattle.xs_sections.specs.declared.class.Class.{Class}
 use Rattle.xs_sections.specs.declared.class.Class.TheVariants.{Module, BadModule}
@@ -25,9 +26,9 @@ found >>= next = option_and_then next found
 -- `WORD = VALUE` at the front
 abbrev pub assignment : List ℕ → List ℕ → Option Valued
 assignment word text = do
-  more ← behind word (trimmed text)
-  value ← behind (codes "=") (trimmed more)
-  Some (valued (trimmed value))
+  more ← after_word word (behind_blanks text)
+  value ← after_word (codes "=") (behind_blanks more)
+  Some (valued (behind_blanks value))
 
 abbrev pub good_value : (List ℕ → Bool) → Valued → Option Valued
 good_value is_good found = if is_good found.0 then Some found else None
@@ -47,7 +48,7 @@ module_names line = do
   named ← required is_name (assignment (codes "MODULE") line)
   packaged ← optional is_name (assignment (codes "PACKAGE") named.1) named.1
   prefixed ← optional is_identifier (assignment (codes "PREFIX") packaged.1) packaged.1
-  if is_empty prefixed.1 then Some (record { «module» = named.0; «package» = packaged.0; prefix = prefixed.0 }) else None
+  if is_blank_line prefixed.1 then Some (record { «module» = named.0; «package» = packaged.0; prefix = prefixed.0 }) else None
 
 abbrev pub class_by_names : Option ModuleNames → Class
 class_by_names None = BadModule

@@ -6,9 +6,8 @@ use crate::class::{Class, Place};
 use crate::keywords::head_class;
 use crate::marks::{begins_pod, ends_pod, is_comment, is_directive, is_flush_left, is_module_line};
 use crate::module_line::module_class;
-use crate::text::is_empty;
 use std::alloc::Global;
-use xs_base::Memory;
+use xs_base::{Memory, is_blank_line};
 
 fn is_in_text(at: &Place) -> bool
     ensures { result ≡ spec.is_in_text at.now }
@@ -129,7 +128,7 @@ fn comment_class(text: &[u8]) -> Class
 fn paragraph_class(alloc: Global, at: &Place, text: &[u8]) -> Result<Class, Memory>
     ensures { IfOk result (λ class. class ≡ spec.paragraph_class at.now text.now) }
 {
-    if is_empty(text) {
+    if is_blank_line(text) {
         Ok(if is_in_text(at) {
             Class::Blank
         } else {

@@ -1,23 +1,22 @@
 //! File keywords, which stand at the head of a paragraph.
 ghost use Rattle.std.specs.Option.{option_copied};
 ghost use Rattle.std.specs.Prelude.{◌≡◌, ◌==◌, IfOk};
+ghost use Rattle.xs_base.specs.Scanning.{is_word_byte};
 ghost use Rattle.xs_sections.specs.Keywords as spec;
-ghost use Rattle.xs_sections.specs.Text.{begins_with_byte, behind_front, front, is_in_word};
+ghost use Rattle.xs_sections.specs.Text.{begins_with_byte, behind_front, front};
 
 use crate::class::Class;
 use crate::marks::begins_with;
-use crate::text::{
-    behind, is_empty, is_identifier, split_at_blank, split_capitals, split_word, trimmed,
-};
+use crate::text::{split_at_blank, split_capitals, split_word};
 use std::alloc::Global;
-use xs_base::{Bytes, Memory};
+use xs_base::{Bytes, Memory, after_word, behind_blanks, is_blank_line, is_identifier};
 
 /// What a line is that may begin a paragraph.
 pub fn head_class(alloc: Global, line: &[u8]) -> Result<Class, Memory>
     ensures { IfOk result (λ class. class ≡ spec.head_class line.now) }
 {
     let (word, more) = split_capitals(line);
-    match trimmed(more) {
+    match behind_blanks(more) {
         [] => Ok(text_class(line)),
         [first, value @ ..] => {
             if *first == b':' {
@@ -95,15 +94,19 @@ fn map_class(alloc: Global, value: &[u8]) -> Result<Class, Memory>
 fn only_word(value: &[u8]) -> &[u8]
     ensures { result.now ≡ spec.only_word value.now }
 {
-    let (word, more) = split_at_blank(trimmed(value));
-    if is_empty(more) { word } else { b"".as_slice() }
+    let (word, more) = split_at_blank(behind_blanks(value));
+    if is_blank_line(more) {
+        word
+    } else {
+        b"".as_slice()
+    }
 }
 
 /// The end word in the value of TYPEMAP: behind `<<`, alone or in quotes, and with `;` behind it or not.
 fn block_end(value: &[u8]) -> Option<&[u8]>
     ensures { option_copied result ≡ spec.block_end value.now }
 {
-    let word = behind(b"<<", value)?;
+    let word = after_word(b"<<", value)?;
     end_word(word)
 }
 
@@ -124,7 +127,7 @@ fn end_word(text: &[u8]) -> Option<&[u8]>
 }
 
 fn quoted_word(quote: u8, text: &[u8]) -> Option<&[u8]>
-    ensures { option_copied result ≡ spec.quoted_word quote (front is_in_word text.now) (behind_front is_in_word text.now) }
+    ensures { option_copied result ≡ spec.quoted_word quote (front is_word_byte text.now) (behind_front is_word_byte text.now) }
 {
     let (word, more) = split_word(text);
     match more {

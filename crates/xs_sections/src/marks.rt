@@ -1,15 +1,17 @@
 //! What a line is by its own text: POD, a comment, a directive, a MODULE line.
 ghost use Rattle.std.specs.Prelude.{◌≡◌, ◌||◌, ◌==◌};
+ghost use Rattle.xs_base.specs.Scanning as scanning;
 ghost use Rattle.xs_sections.specs.Marks as spec;
 ghost use Rattle.xs_sections.specs.Text as bytes;
 
-use crate::text::{behind, is_blank, is_digit, is_letter, split_word, trimmed};
+use crate::text::split_word;
+use xs_base::{after_word, behind_blanks, is_blank, is_digit, is_letter};
 
 /// A line that begins with a text.
 pub fn begins_with(word: &[u8], line: &[u8]) -> bool
     ensures { result ≡ spec.begins_with word.now line.now }
 {
-    behind(word, line).is_some()
+    after_word(word, line).is_some()
 }
 
 /// A line that begins with `=` and a letter starts POD.
@@ -23,7 +25,7 @@ pub fn begins_pod(line: &[u8]) -> bool
 }
 
 fn begins_with_letter(line: &[u8]) -> bool
-    ensures { result ≡ bytes.begins_with_byte bytes.is_letter line.now }
+    ensures { result ≡ bytes.begins_with_byte scanning.is_letter line.now }
 {
     match line {
         [] => false,
@@ -32,7 +34,7 @@ fn begins_with_letter(line: &[u8]) -> bool
 }
 
 fn begins_with_digit(line: &[u8]) -> bool
-    ensures { result ≡ bytes.begins_with_byte bytes.is_digit line.now }
+    ensures { result ≡ bytes.begins_with_byte scanning.is_digit line.now }
 {
     match line {
         [] => false,
@@ -41,7 +43,7 @@ fn begins_with_digit(line: &[u8]) -> bool
 }
 
 fn begins_with_blank(line: &[u8]) -> bool
-    ensures { result ≡ bytes.begins_with_byte bytes.is_blank line.now }
+    ensures { result ≡ bytes.begins_with_byte scanning.is_blank line.now }
 {
     match line {
         [] => false,
@@ -79,7 +81,7 @@ pub fn is_flush_left(line: &[u8]) -> bool
 pub fn is_comment(line: &[u8]) -> bool
     ensures { result ≡ spec.is_comment line.now }
 {
-    match trimmed(line) {
+    match behind_blanks(line) {
         [] => false,
         [first, ..] => *first == b'#',
     }
@@ -91,17 +93,19 @@ pub fn is_directive(line: &[u8]) -> bool
 {
     match line {
         [] => false,
-        [first, rest @ ..] => *first == b'#' && is_directive_text(trimmed(rest)),
+        [first, rest @ ..] => *first == b'#' && is_directive_text(behind_blanks(rest)),
     }
 }
 
 fn is_directive_text(text: &[u8]) -> bool
-    ensures { result ≡ spec.is_directive_text (bytes.front bytes.is_in_word text.now) (bytes.behind_front bytes.is_in_word text.now) }
+    ensures { result ≡ spec.is_directive_text (bytes.front scanning.is_word_byte text.now) (bytes.behind_front scanning.is_word_byte text.now) }
 {
     let (word, more) = split_word(text);
     is_directive_word(word)
-        || word == b"line".as_slice() && begins_with_blank(more) && begins_with_digit(trimmed(more))
-        || word == b"include".as_slice() && begins_with_quote(trimmed(more))
+        || word == b"line".as_slice()
+            && begins_with_blank(more)
+            && begins_with_digit(behind_blanks(more))
+        || word == b"include".as_slice() && begins_with_quote(behind_blanks(more))
 }
 
 fn is_directive_word(word: &[u8]) -> bool
@@ -124,5 +128,5 @@ fn is_directive_word(word: &[u8]) -> bool
 pub fn is_module_line(line: &[u8]) -> bool
     ensures { result ≡ spec.is_module_line line.now }
 {
-    split_word(trimmed(line)).0 == b"MODULE".as_slice()
+    split_word(behind_blanks(line)).0 == b"MODULE".as_slice()
 }

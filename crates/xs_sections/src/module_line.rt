@@ -1,21 +1,22 @@
 //! MODULE lines.
 ghost use Rattle.std.specs.Option.{option_map};
 ghost use Rattle.std.specs.Prelude.{◌≡◌, IfOk, codes};
+ghost use Rattle.xs_base.specs.Scanning.{is_identifier};
 ghost use Rattle.xs_sections.specs.ModuleLine as spec;
-ghost use Rattle.xs_sections.specs.Text.{is_identifier, is_name};
+ghost use Rattle.xs_sections.specs.Text.{is_name};
 
 use crate::class::{Class, ModuleNames};
-use crate::text::{behind, is_empty, is_identifier, is_name, split_at_blank, trimmed};
+use crate::text::{is_name, split_at_blank};
 use std::alloc::Global;
-use xs_base::{Bytes, Memory};
+use xs_base::{Bytes, Memory, after_word, behind_blanks, is_blank_line, is_identifier};
 
 /// Reads `WORD = VALUE` at the front of a text: the value, which ends before a blank, and what stands behind it.
 fn assignment<'a>(word: &[u8], text: &'a [u8]) -> Option<(&'a [u8], &'a [u8])>
     ensures { option_map spec.shown result ≡ spec.assignment word.now text.now }
 {
-    let more = behind(word, trimmed(text))?;
-    let value = behind(b"=", trimmed(more))?;
-    Some(split_at_blank(trimmed(value)))
+    let more = after_word(word, behind_blanks(text))?;
+    let value = after_word(b"=", behind_blanks(more))?;
+    Some(split_at_blank(behind_blanks(value)))
 }
 
 fn module_of(text: &[u8]) -> Option<(&[u8], &[u8])>
@@ -77,7 +78,7 @@ pub fn module_class(alloc: Global, line: &[u8]) -> Result<Class, Memory>
     let Some((prefix, behind_prefix)) = prefix_of(behind_package) else {
         return Ok(Class::BadModule);
     };
-    if !is_empty(behind_prefix) {
+    if !is_blank_line(behind_prefix) {
         return Ok(Class::BadModule);
     }
     Ok(Class::Module(ModuleNames {

@@ -1,7 +1,7 @@
 //! What was read of an XS file so far.
-ghost use Rattle.std.specs.Prelude.{◌≡◌, ◌++◌, ◌∷◌, [], IfOk, OnOk, if◌then◌else◌};
+ghost use Rattle.std.specs.Prelude.{◌≡◌, [], OnOk, if◌then◌else◌};
 ghost use Rattle.xs_base.specs.Reading.{Gives};
-ghost use Rattle.xs_sections.specs.Faults.{fault_at, is_before, earlier};
+ghost use Rattle.xs_sections.specs.Faults.{fault_at, is_before};
 ghost use Rattle.xs_sections.specs.Steps as spec;
 
 use crate::class::{Class, ModuleNames, Place};

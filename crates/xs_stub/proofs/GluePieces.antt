@@ -2,13 +2,15 @@
 use Rattle.std.proofs.Common.{◌≡◌, ℕ, ◌+◌, List, [], ◌∷◌, ◌++◌, codes, length, refl, sym, ap, append_assoc, append-nil, ◌∙◌}
 use Rattle.std.specs.Fmt.{decimal}
 use Rattle.std.specs.List.{flat_map}
+use Rattle.xs_csyn.specs.Pieces as piece
 use Rattle.xs_csyn.specs.Pieces.{Piece, Plain, Name, Bare, Blank, spelled}
+use Rattle.xs_base.specs.declared.place.Line.{Line}
 use Rattle.xs_iface.specs.declared.xsub.Module.{Module}
 use Rattle.xs_iface.specs.declared.xsub.Param.{Param}
 use Rattle.xs_iface.specs.declared.xsub.Term.{Term}
 use Rattle.xs_iface.specs.declared.xsub.Xsub.{Xsub}
 use Rattle.xs_iface.specs.Iface.{underscored}
-use Rattle.xs_stub.specs.Stub.{more_names, joined_names, declaration_text, input_text, inputs_text, term_text, more_terms, sum_text, head_text, work_text, end_text, xsub_text, registration_text, boot_text, glue_text}
+use Rattle.xs_stub.specs.Stub.{c_line_text, more_names, joined_names, declaration_text, input_text, inputs_text, term_text, more_terms, sum_text, head_text, work_text, end_text, xsub_text, registration_text, boot_text, glue_text}
 
 -- The pieces spell the text, whatever stands behind it.
 record Spells (text : List ℕ) (ps : List Piece) : Type 0 where
@@ -156,15 +158,24 @@ boot_spelled m =
     joined (plain (codes "\nXS(boot_")) (joined (name (underscored m.boot)) (joined (plain (codes ")\n{\n    dXSARGS;\n"))
     (joined (all_joined registration_text registration_pieces registration_spelled m.xsubs) (joined (plain (codes "    XSRETURN_YES;\n}\n")) nothing))))
 
-abbrev pub glue_pieces : Module → List Piece
-glue_pieces m = Plain (codes "/* xsubpp glue, data model LP64 */\n") ∷ flat_map xsub_pieces m.xsubs ++ boot_pieces m
+abbrev pub c_line_pieces : Line → List Piece
+c_line_pieces line = piece.Line line.text ∷ []
 
-glue_spelled : (m : Module) → Spells (glue_text m) (Plain (codes "/* xsubpp glue, data model LP64 */\n") ∷ (flat_map xsub_pieces m.xsubs ++ (boot_pieces m ++ [])))
+c_line_spelled : (line : Line) → Spells (c_line_text line) (c_line_pieces line)
+unfolding spelled
+c_line_spelled line = record { onto = λ qs. refl }
+
+abbrev pub glue_pieces : Module → List Piece
+glue_pieces m = Plain (codes "/* xsubpp glue, data model LP64 */\n") ∷ (flat_map c_line_pieces m.c_part ++ (flat_map xsub_pieces m.xsubs ++ boot_pieces m))
+
+glue_spelled : (m : Module) → Spells (glue_text m) (Plain (codes "/* xsubpp glue, data model LP64 */\n") ∷ (flat_map c_line_pieces m.c_part ++ (flat_map xsub_pieces m.xsubs ++ (boot_pieces m ++ []))))
 unfolding glue_text
-glue_spelled m = joined (plain (codes "/* xsubpp glue, data model LP64 */\n")) (joined (all_joined xsub_text xsub_pieces xsub_spelled m.xsubs) (joined (boot_spelled m) nothing))
+glue_spelled m =
+    joined (plain (codes "/* xsubpp glue, data model LP64 */\n")) (joined (all_joined c_line_text c_line_pieces c_line_spelled m.c_part)
+    (joined (all_joined xsub_text xsub_pieces xsub_spelled m.xsubs) (joined (boot_spelled m) nothing)))
 
 -- The text is what the pieces spell.
 pub text_in_pieces : (m : Module) → glue_text m ≡ spelled (glue_pieces m)
 text_in_pieces m =
     whole (glue_spelled m)
-    ∙ ap (λ (ps : List Piece). spelled (Plain (codes "/* xsubpp glue, data model LP64 */\n") ∷ (flat_map xsub_pieces m.xsubs ++ ps))) (append-nil (boot_pieces m))
+    ∙ ap (λ (ps : List Piece). spelled (Plain (codes "/* xsubpp glue, data model LP64 */\n") ∷ (flat_map c_line_pieces m.c_part ++ (flat_map xsub_pieces m.xsubs ++ ps)))) (append-nil (boot_pieces m))

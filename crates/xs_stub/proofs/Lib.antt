@@ -1,5 +1,9 @@
 pub mod Joining
-pub mod FirstForms
 pub mod GluePieces
-pub mod FormWords
+pub mod GlueWords
+pub mod Cuts
+pub mod Standing
+pub mod Sums
+pub mod Statements
+pub mod GlueFunctions
 pub mod ReadBack

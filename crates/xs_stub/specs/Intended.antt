@@ -14,7 +14,7 @@ use Rattle.xs_iface.specs.declared.xsub.Param.{Param}
 use Rattle.xs_iface.specs.declared.xsub.Term.{Term}
 use Rattle.xs_iface.specs.declared.xsub.Term.TheVariants.{Literal, Parameter}
 use Rattle.xs_iface.specs.declared.xsub.Xsub.{Xsub}
-use Rattle.xs_iface.specs.Iface.{FormNames, glue_name, full_name, two_params, underscored}
+use Rattle.xs_iface.specs.Iface.{underscored}
 use Rattle.xs_stub.specs.Stub.{glue_text, joined_names, name_or_nothing}
 
 -- `int`, `IV` and `SV *`
@@ -113,49 +113,3 @@ pub record ReadsBack (m : Module) : Type 0 where
   pub tree : FileTree
   pub read : file_of file.Text (glue_text m) ≡ Ok tree
   pub same : unlined tree ≡ unlined (glue_tree m)
-
--- ---- the first form, with the lines of the written text
-
-abbrev pub form_params : FormNames → List Param
-form_params f = two_params f.interface.first f.interface.second
-
-abbrev pub form_glue : FormNames → List ℕ
-form_glue f = glue_name f.names.package_name f.interface.function
-
-abbrev pub form_full : FormNames → List ℕ
-form_full f = full_name f.names.package_name f.interface.function
-
--- the statements of the block
-abbrev pub text_work : FormNames → List StmtTree
-text_work f =
-    Declare 9 int_type f.interface.first
-    ∷ Declare 10 int_type f.interface.second
-    ∷ Declare 11 int_type (codes "RETVAL")
-    ∷ Declare 12 sv_pointer (codes "RETVALSV")
-    ∷ assign 13 f.interface.first (int_argument 13 0)
-    ∷ assign 14 f.interface.second (int_argument 14 1)
-    ∷ assign 15 (codes "RETVAL") (Two 15 op.Add (term_tree (form_params f) 15 f.sum.left) (term_tree (form_params f) 15 f.sum.right))
-    ∷ assign 16 (codes "RETVALSV") (call_of 16 (codes "sv_newmortal") [])
-    ∷ Effect 17 (call_of 17 (codes "sv_setiv") (Var 17 (codes "RETVALSV") ∷ Cast 17 iv_type (Var 17 (codes "RETVAL")) ∷ []))
-    ∷ Effect 18 (Set 18 (StPlace 18 (Num 18 0)) (Var 18 (codes "RETVALSV")))
-    ∷ Effect 19 (call_of 19 (codes "XSRETURN") (Num 19 1 ∷ []))
-    ∷ []
-
-abbrev pub text_usage : FormNames → StmtTree
-text_usage f =
-    If 6 (Two 6 op.NotEqual (Var 6 (codes "items")) (Num 6 2))
-    (Effect 7 (call_of 7 (codes "croak_xs_usage") (Var 7 (codes "cv") ∷ Str 7 (joined_names (form_params f)) ∷ [])))
-
--- the tree that the written text of a module of the first form is read as
-unfoldable pub text_tree : FormNames → FileTree
-text_tree f = record {
-  model = model.Lp64;
-  items =
-      XsFunction (record { line = 3; name = form_glue f; body = stmts_of (Perl 5 form.DxsArgs ∷ text_usage f ∷ Block 8 (stmts_of (text_work f)) ∷ []) })
-      ∷ XsFunction (record {
-        line = 23;
-        name = codes "boot_" ++ underscored f.names.module_name;
-        body = stmts_of (Perl 25 form.DxsArgs ∷ Perl 26 (form.NewXs (form_full f) (form_glue f)) ∷ Perl 27 form.XsReturnYes ∷ []);
-      })
-      ∷ [];
-}

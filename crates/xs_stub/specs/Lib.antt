@@ -1,3 +1,2 @@
 pub mod Stub
-pub mod FirstForm
 pub mod Intended

@@ -3,6 +3,7 @@
 use Rattle.std.specs.Fmt.{decimal}
 use Rattle.std.specs.List.{flat_map}
 use Rattle.std.specs.Prelude.{ℕ, ◌+◌, List, [], ◌∷◌, ◌++◌, length, codes, Option, None, Some, slice_get}
+use Rattle.xs_base.specs.declared.place.Line.{Line}
 use Rattle.xs_iface.specs.declared.xsub.Module.{Module}
 use Rattle.xs_iface.specs.declared.xsub.Param.{Param}
 use Rattle.xs_iface.specs.declared.xsub.Term.{Term}
@@ -81,6 +82,10 @@ unfoldable pub boot_text : Module → List ℕ
 boot_text m =
     together (codes "\nXS(boot_" ∷ underscored m.boot ∷ codes ")\n{\n    dXSARGS;\n" ∷ flat_map registration_text m.xsubs ∷ codes "    XSRETURN_YES;\n}\n" ∷ [])
 
+-- a line of the C part as it stands
+abbrev pub c_line_text : Line → List ℕ
+c_line_text line = line.text ++ codes "\n"
+
 -- the whole text
 unfoldable pub glue_text : Module → List ℕ
-glue_text m = together (codes "/* xsubpp glue, data model LP64 */\n" ∷ flat_map xsub_text m.xsubs ∷ boot_text m ∷ [])
+glue_text m = together (codes "/* xsubpp glue, data model LP64 */\n" ∷ flat_map c_line_text m.c_part ∷ flat_map xsub_text m.xsubs ∷ boot_text m ∷ [])

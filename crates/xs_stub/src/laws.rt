@@ -1,25 +1,13 @@
-//! Laws of the glue text, for all XS files.
+//! Laws of the glue text, for all modules.
 
-ghost use Rattle.std.specs.Prelude.{◌≡◌, List, Ok, ℕ};
-ghost use Rattle.xs_base.specs.declared.place.FileOf.TheVariants as file;
-ghost use Rattle.xs_csyn.specs.Files.{file_of};
-ghost use Rattle.xs_iface.specs.Iface.{FormNames, module_from, module_of};
+ghost use Rattle.std.specs.Prelude.{◌≡◌, true};
+ghost use Rattle.xs_csyn.specs.Lexemes.{is_passed_line};
+ghost use Rattle.xs_iface.specs.SumForm.{All, IsSumModule};
 ghost use Rattle.xs_iface.specs.declared.xsub.Module.{Module};
-ghost use Rattle.xs_stub.specs.FirstForm.{AreFormNames, FirstForm};
-ghost use Rattle.xs_stub.specs.Intended.{ReadsBack, text_tree};
-ghost use Rattle.xs_stub.specs.Stub.{glue_text};
+ghost use Rattle.xs_stub.specs.Intended.{ReadsBack};
 
-/// The module of an XS file is of the first form.
-pub fn first_form_of()
-    ensures { (xs : List ℕ) (m : Module) → module_of xs ≡ Ok m → FirstForm m }
-{}
-
-/// The written text of the module of an XS file, read again, is the intended tree but for lines.
+/// The written text of a module whose XSUBs are sums, read again, is the intended tree but for lines. Its C part has only lines
+/// that are passed over.
 pub fn written_text_reads_back()
-    ensures { (xs : List ℕ) (m : Module) → module_of xs ≡ Ok m → ReadsBack m }
-{}
-
-/// The tree, with its lines, that the written text of a module of the first form is read as.
-pub fn written_text_is_read_as()
-    ensures { (f : FormNames) → AreFormNames f → file_of file.Text (glue_text (module_from f)) ≡ Ok (text_tree f) }
+    ensures { (m : Module) → IsSumModule m → All (λ line. is_passed_line line.text ≡ true) m.c_part → ReadsBack m }
 {}

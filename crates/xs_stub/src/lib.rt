@@ -1,8 +1,14 @@
 //! The stub writer: the glue text of a module.
 #![tactic(auto)]
 
+mod glue_exprs;
+mod glue_items;
+mod glue_stmts;
 mod laws;
+#[cfg(test)]
+mod tests;
 mod writer;
 
-pub use laws::{first_form_of, written_text_is_read_as, written_text_reads_back};
+pub use glue_items::glue_tree;
+pub use laws::written_text_reads_back;
 pub use writer::{decimal_text, together, write_glue};

@@ -2,10 +2,10 @@
 ghost use Rattle.std.specs.Fmt.{decimal};
 ghost use Rattle.std.specs.List.{flat_map};
 ghost use Rattle.std.specs.Prelude.{◌≡◌, IfOk, map};
-ghost use Rattle.xs_stub.specs.Stub.{boot_text, declaration_text, end_text, glue_text, head_text, input_text, inputs_text, joined_names, more_names, more_terms, registration_text, sum_text, term_text, together, work_text, xsub_text};
+ghost use Rattle.xs_stub.specs.Stub.{boot_text, c_line_text, declaration_text, end_text, glue_text, head_text, input_text, inputs_text, joined_names, more_names, more_terms, registration_text, sum_text, term_text, together, work_text, xsub_text};
 
 use std::alloc::Global;
-use xs_base::{Bytes, Memory};
+use xs_base::{Bytes, Line, Memory};
 use xs_iface::{Module, Param, Term, Xsub, underscored};
 
 /// The glue text. Its layout is this project's own; what it calls is described in perlxs and perlapi.
@@ -13,10 +13,27 @@ use xs_iface::{Module, Param, Term, Xsub, underscored};
 pub fn write_glue(alloc: Global, m: &Module) -> Result<Bytes, Memory>
     ensures { IfOk result (λ text. text ≡ glue_text m.now) }
 {
+    let c_part = write_c_part(alloc, m.c_part.as_slice())?;
     let xsubs = write_xsubs(alloc, m.xsubs.as_slice())?;
     let boot = write_boot(alloc, m)?;
     let top = b"/* xsubpp glue, data model LP64 */\n".as_slice();
-    together(alloc, &[top, xsubs.as_slice(), boot.as_slice()])
+    together(
+        alloc,
+        &[top, c_part.as_slice(), xsubs.as_slice(), boot.as_slice()],
+    )
+}
+
+// The lines of the C part as they stand.
+#[tactic(auto, using(std::proofs::Common::append_assoc))]
+fn write_c_part(alloc: Global, lines: &[Line]) -> Result<Bytes, Memory>
+    ensures { IfOk result (λ text. text ≡ flat_map c_line_text lines.now) }
+{
+    let mut text = Bytes::new(alloc);
+    for line in lines {
+        text.append(line.text.as_slice())?;
+        text.append(b"\n")?;
+    }
+    Ok(text)
 }
 
 /// Texts one behind the other.
@@ -113,9 +130,9 @@ fn write_work(alloc: Global, x: &Xsub) -> Result<Bytes, Memory>
     )
 }
 
-// The names of the parameters, joined by a comma and a space.
+/// The names of the parameters, joined by a comma and a space.
 #[tactic(auto, using(std::proofs::Common::append_assoc))]
-fn write_names(alloc: Global, params: &[Param]) -> Result<Bytes, Memory>
+pub fn write_names(alloc: Global, params: &[Param]) -> Result<Bytes, Memory>
     ensures { IfOk result (λ text. text ≡ joined_names params.now) }
 {
     let mut text = Bytes::new(alloc);

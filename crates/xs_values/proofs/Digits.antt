@@ -1,7 +1,8 @@
 -- Digits that are read with a greatest number give what they write, or that number.
 use Rattle.std.proofs.Common.{◌≡◌, ℕ, ◌+◌, ◌-◌, ◌*◌, ◌≤◌, min, Bool, true, false, cond, List, [], ◌∷◌, length, get_or, take, drop, ap, ◌∙◌, sym, arith, ◌⊎◌, inl, inr}
 use Rattle.std.proofs.lemmas.List.{take_rest}
-use Rattle.xs_values.specs.Plains.{digits_on, is_digit}
+use Rattle.xs_base.specs.Scanning.{is_digit}
+use Rattle.xs_values.specs.Plains.{digits_on}
 
 grows_at : (c : Bool) (n m : ℕ) → n ≤ m → n ≤ cond c m n
 grows_at true n m h = h

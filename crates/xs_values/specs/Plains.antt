@@ -1,14 +1,13 @@
 -- Plain values, and their numbers and texts.
 use Rattle.std.specs.Prelude.{ℤ, pos, negsuc, neg_ℤ, ℕ, ◌+◌, ◌-◌, ◌*◌, ◌^◌, Bool, cond, ◌==◌, ◌&&◌, ◌||◌, nat_le, List, [], ◌∷◌, int_lt}
 use Rattle.std.specs.Fmt.{decimal, signed_decimal}
+use Rattle.xs_base.specs.Scanning.{is_digit}
 use Rattle.xs_values.specs.declared.plain.Plain.{Plain}
 use Rattle.xs_values.specs.declared.plain.Plain.TheVariants.{Undef, Int, Uns, Text}
 
+-- a byte of C's white space
 abbrev pub is_blank : ℕ → Bool
 is_blank b = (nat_le 9 b && nat_le b 13) || (b == 32)
-
-abbrev pub is_digit : ℕ → Bool
-is_digit b = nat_le 48 b && nat_le b 57
 
 -- a text from its first byte that is no blank
 abbrev pub without_blanks : List ℕ → List ℕ

@@ -94,8 +94,8 @@ fn promote(kind: Kind) -> Kind
     }
 }
 
-// The kind that both operands of an operator are converted to.
-pub(crate) fn common(a: Kind, b: Kind) -> Kind
+/// The kind that both operands of an operator are converted to.
+pub fn common(a: Kind, b: Kind) -> Kind
     ensures { result ≡ common_kind a b }
 {
     let a = promote(a);

@@ -9,7 +9,7 @@ mod operator;
 mod plain;
 mod trap;
 
-pub use kind::Kind;
+pub use kind::{Kind, common};
 pub use model::DataModel;
 pub use number::{CInt, wrap};
 pub use operator::{Op, arith};

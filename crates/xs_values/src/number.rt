@@ -1,7 +1,7 @@
 //! Numbers of C, and the conversion between their kinds.
 ghost use Rattle.std.specs.Prelude.{◌≡◌, ◌-◌, ◌≤ℤ◌, ◌^◌, neg_ℤ, pos};
 ghost use Rattle.xs_values.specs.Kinds.{high_of, low_of};
-ghost use Rattle.xs_values.specs.Numbers.{modular, wrapped, wrapped_value};
+ghost use Rattle.xs_values.specs.Numbers.{modular, wrapped};
 
 use crate::Kind;
 use crate::kind::{high, modulus};

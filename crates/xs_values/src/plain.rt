@@ -1,10 +1,10 @@
 //! What a scalar holds that is no reference, and its number and text.
 ghost use Rattle.std.specs.Fmt.{signed_decimal};
 ghost use Rattle.std.specs.Prelude.{◌≡◌, ◌-◌, ◌^◌, IfOk, decimal, min, neg_ℤ, negsuc, pos};
-ghost use Rattle.xs_values.specs.Plains.{between, digits_on, into_iv, is_blank, is_digit, iv_of, number_of_text, text_of, without_blanks};
+ghost use Rattle.xs_values.specs.Plains.{between, digits_on, into_iv, is_blank, iv_of, number_of_text, text_of, without_blanks};
 
 use std::alloc::Global;
-use xs_base::{Bytes, Memory};
+use xs_base::{Bytes, Memory, is_digit};
 
 /// What a scalar holds where it holds no reference.
 #[derive(Debug, Drop)]
@@ -115,7 +115,7 @@ fn digits_value(bytes: &[u8]) -> u64
     let mut value: u64 = 0;
     let mut rest = bytes;
     while let [b, behind @ ..] = rest {
-        if !digit(*b) {
+        if !is_digit(*b) {
             return value;
         }
         value = value.saturating_mul(10).saturating_add(u64::from(*b - 48));
@@ -124,14 +124,9 @@ fn digits_value(bytes: &[u8]) -> u64
     value
 }
 
+// C's white space.
 fn blank(b: u8) -> bool
     ensures { result ≡ is_blank b }
 {
     (9 <= b && b <= 13) || b == 32
-}
-
-fn digit(b: u8) -> bool
-    ensures { result ≡ is_digit b }
-{
-    48 <= b && b <= 57
 }

@@ -6,7 +6,7 @@ use Rattle.xs_base.specs.Sinks.{appended, AppendsPrefix}
 use Rattle.xsubpp.specs.declared.status.Status.{Status}
 use Rattle.xsubpp.specs.declared.status.Status.TheVariants.{Done, Refused, Usage, Missing, ReadFault, WriteFault, Memory}
 use Rattle.xsubpp.specs.declared.answer.Answer.{Answer}
-use Rattle.xsubpp.specs.Answers.{answer, answer_to, Ends}
+use Rattle.xsubpp.specs.Answers.{answer, answer_to, Ends, IsStatus}
 use Rattle.xsubpp.specs.Reads.{IsAnswerOf}
 use Rattle.xsubpp.specs.Words.{Command, command_of}
 
@@ -79,10 +79,22 @@ pub complete : (words : List (List ℕ)) (files : Files) (command : Command) (to
 complete words files command told before now a result h said tells was no_rise no_write =
     its_status a result was no_write ∙ ap (λ (b : Answer). b.status) (same_answer words files command told before now a h said tells (λ e. no_rise (h.read_fault e)))
 
+-- Where no read failed, the status is that of the answer, if it could be written.
+pub decided : (words : List (List ℕ)) (files : Files) (command : Command) (told : Option Files) (before now : ℕ) (a : Answer) (result : Status)
+    → IsAnswerOf told command before now a → command_of words ≡ Some command → told ≡ Some files
+    → (result ≡ a.status) ⊎ (result ≡ WriteFault) → ¬ (Rose before now) → IsStatus (answer words files).status result
+decided words files command told before now a result h said tells (inl is) no_rise =
+    inl (is ∙ ap (λ (b : Answer). b.status) (same_answer words files command told before now a h said tells (λ e. no_rise (h.read_fault e))))
+decided words files command told before now a result h said tells (inr is) no_rise = inr (inl is)
+
 -- words that are no command
 pub no_command : (words : List (List ℕ)) (files : Files) (result : Status) → command_of words ≡ None → result ≡ Usage → result ≡ (answer words files).status
 unfolding answer
 no_command words files result none is = is ∙ ap (λ c. (answer_to c files).status) (sym none)
+
+pub decided_usage : (words : List (List ℕ)) (files : Files) (result : Status) → command_of words ≡ None → (result ≡ Usage) ⊎ (result ≡ WriteFault) → IsStatus (answer words files).status result
+decided_usage words files result none (inl is) = inl (no_command words files result none is)
+decided_usage words files result none (inr is) = inr (inl is)
 
 -- the same, by some reads
 pub ends_by : (a b : Answer) (s result : Status) (out out' err err' : Option (List ℕ)) → a ≡ b → (result ≡ a.status) ⊎ (result ≡ WriteFault)
@@ -91,3 +103,7 @@ ends_by a b s result out out' err err' same was out_is err_is no_write is =
     let not_write : result ≢ WriteFault = λ e. no_write (sym is ∙ e) in
     let P : Answer → Type 0 = λ x. Ends x s out out' err err' in
     subst P same (record { status_is = sym (its_status a result was not_write) ∙ is; out_is = out_is not_write; err_is = err_is not_write })
+
+-- the status of the answer, named
+pub as_status : (status s result : Status) → status ≡ s → IsStatus status result → IsStatus s result
+as_status status s result is h = let P : Status → Type 0 = λ t. IsStatus t result in subst P is h

@@ -5,7 +5,7 @@ use Rattle.xs_base.specs.Causes.{Rose}
 use Rattle.xs_base.specs.declared.fault.Refuse.{Refuse}
 use Rattle.xs_base.specs.declared.fault.Refuse.TheVariants as refuse
 use Rattle.xs_base.specs.Desks.{Files}
-use Rattle.xsubpp.specs.Answers.{answer_to, done_or_refused}
+use Rattle.xsubpp.specs.Answers.{Given, answer_by, answer_to, done_or_refused}
 use Rattle.xsubpp.specs.declared.answer.Answer.{Answer}
 use Rattle.xsubpp.specs.declared.status.Status.TheVariants.{Done, ReadFault, WriteFault, Memory, Usage}
 use Rattle.xsubpp.specs.Words.{Command}
@@ -19,8 +19,12 @@ pub record IsAnswerOf (told : Option Files) (command : Command) (before now : �
   pub not_memory : a.status ≢ Memory
   pub not_usage : a.status ≢ Usage
 
+-- It is the answer by what some reads gave.
+abbrev pub IsByReads : Command → Answer → Type 0
+IsByReads command a = (given : Given) × (a ≡ answer_by command given)
+
 -- It is the answer by what the job gave, where that is not want of memory.
-abbrev pub Finishes : List ℕ → List ℕ → Result (List ℕ) Refuse → Answer → Type 0
-Finishes xs script (Ok text) a = a ≡ done_or_refused xs script (Ok text)
-Finishes xs script (Err (refuse.Fault fault)) a = a ≡ done_or_refused xs script (Err fault)
-Finishes xs script (Err refuse.Memory) a = ⊥
+abbrev pub Finishes : Command → Result (List ℕ) Refuse → Answer → Type 0
+Finishes command (Ok text) a = a ≡ done_or_refused command (Ok text)
+Finishes command (Err (refuse.Fault fault)) a = a ≡ done_or_refused command (Err fault)
+Finishes command (Err refuse.Memory) a = ⊥

@@ -2,10 +2,11 @@
 ghost use Rattle.std.specs.Prelude.{◌≡◌, [], IfOk, IsErr};
 ghost use Rattle.xsubpp.specs.Answers.{name_of, unread};
 ghost use Rattle.xsubpp.specs.Reads.{Finishes};
+ghost use Rattle.xsubpp.specs.Words.{said};
 
 use crate::refusal::{fault_line, file_line};
 use crate::status::Status;
-use crate::words::CallWords;
+use crate::words::CommandWords;
 use std::alloc::Global;
 use xs_base::{Bytes, DeskFault, Fault, FileOf, Memory, Refuse};
 
@@ -57,13 +58,13 @@ fn on_err(alloc: Global, status: Status, err: Bytes) -> Result<Answer, Memory>
     })
 }
 
-/// The answer of a job: its text, or the first fault with the word that named its file.
+/// The answer of a command's job: its text, or the first fault with the word that named its file.
 pub fn done_or_refused(
     alloc: Global,
-    files: CallWords<'_>,
+    command: CommandWords<'_>,
     job: Result<Bytes, Refuse>,
 ) -> Result<Answer, Memory>
-    ensures { IfOk result (λ a. Finishes files.entry.xs.now files.entry.script.now job a) }
+    ensures { IfOk result (λ a. Finishes (said command.entry) job a) }
 {
     match job {
         Ok(text) => Ok(Answer {
@@ -72,7 +73,7 @@ pub fn done_or_refused(
             err: Bytes::new(alloc),
         }),
         Err(Refuse::Fault(fault)) => {
-            let name = name_of(fault.file, files);
+            let name = name_of(command, fault.file);
             on_err(alloc, Status::Refused, fault_line(alloc, name, &fault)?)
         }
         Err(Refuse::Memory) => Err(Memory),
@@ -80,11 +81,15 @@ pub fn done_or_refused(
 }
 
 // The word that named a file.
-fn name_of<'a>(file: FileOf, files: CallWords<'a>) -> &'a Bytes
-    ensures { result.now ≡ name_of file files.entry.xs.now files.entry.script.now }
+fn name_of<'a>(command: CommandWords<'a>, file: FileOf) -> &'a Bytes
+    ensures { result.now ≡ name_of (said command.entry) file }
 {
-    match file {
-        FileOf::Script => files.script,
-        _ => files.xs,
+    match command {
+        CommandWords::Compile(xs) => xs,
+        CommandWords::Call(xs, script) => match file {
+            FileOf::Script => script,
+            _ => xs,
+        },
+        CommandWords::Check(xs) => xs,
     }
 }

@@ -2,12 +2,16 @@
 #![tactic(auto)]
 
 mod answer;
+#[cfg(test)]
+mod examples;
 mod reading;
 mod refusal;
 mod status;
 #[cfg(test)]
 mod tests;
 mod top;
+#[cfg(test)]
+mod wide_examples;
 mod words;
 
 pub use status::Status;

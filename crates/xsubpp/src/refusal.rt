@@ -1,7 +1,7 @@
 //! The lines by which faults are told.
 ghost use Rattle.std.specs.Fmt.{decimal};
 ghost use Rattle.std.specs.Prelude.{◌≡◌, ◌++◌, IfOk, OnOk};
-ghost use Rattle.xsubpp.specs.Answers.{fault_line, file_line, newline, refusal_text, word_text};
+ghost use Rattle.xsubpp.specs.Answers.{fault_line, file_line, refusal_text, word_text};
 
 use std::alloc::Global;
 use xs_base::{Bytes, Fault, Memory};
@@ -58,6 +58,17 @@ fn refusal_text(code: u16) -> &'static [u8]
 {
     match code {
         101 => b"file too long",
+        102 => b"no MODULE line",
+        103 => b"bad MODULE line",
+        104 => b"preprocessor line not taken",
+        105 => b"open POD",
+        106 => b"open TYPEMAP block",
+        107 => b"too many paragraphs",
+        108 => b"keyword left out",
+        109 => b"bad keyword value",
+        303 => b"parameter twice",
+        304 => b"too many parameters",
+        407 => b"name twice",
         951 => b"bad script line",
         952 => b"unknown variable",
         953 => b"variable or sub twice",

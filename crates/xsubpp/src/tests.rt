@@ -1,4 +1,6 @@
 //! Worked examples, through the top call and in memory: what each run writes, and its status.
+use crate::examples::{EXAMPLES, Example};
+use crate::wide_examples::WIDE_EXAMPLES;
 use crate::{Status, xsubpp};
 use std::alloc::Global;
 use std::test::Fail;
@@ -43,11 +45,45 @@ fn run(
 
 const CALL: [&str; 3] = ["call", "a.xs", "a.txt"];
 
+const COMPILE: [&str; 2] = ["compile", "a.xs"];
+
+const CHECK: [&str; 2] = ["check", "a.xs"];
+
+const USAGE: &str =
+    "usage: xsubpp compile FILE [TYPEMAP]\n       xsubpp call FILE SCRIPT [TYPEMAP]\n       xsubpp run TEXT SCRIPT\n       xsubpp check FILE [TYPEMAP]\n       xsubpp example N\n";
+
+// What a command writes on `out`, where it does its work.
+fn writes(alloc: Global, words: &[&str], desk: &mut MemDesk, text: &str) -> Result<bool, Fail> {
+    let (status, out, err) = run(alloc, words, desk, 4096)?;
+    Ok(status == Status::Done && out.bytes() == text.as_bytes() && err.bytes().is_empty())
+}
+
+// Whether an example comes out, whole, from each command.
+fn comes_out(alloc: Global, example: &Example) -> Result<bool, Fail> {
+    let mut desk = desk(alloc, example.xs.as_bytes(), example.script.as_bytes())?;
+    Ok(
+        writes(alloc, &COMPILE, &mut desk, example.glue)?
+            && writes(alloc, &CALL, &mut desk, example.told)?
+            && writes(alloc, &CHECK, &mut desk, "accepted\n")?,
+    )
+}
+
+// With ample memory, so that none of these runs ends for want of it.
+#[test]
+fn worked_examples(rt: HostRuntime) -> Result<(), Fail> {
+    for example in &EXAMPLES {
+        assert!(rt; comes_out(rt.alloc(), example)?);
+    }
+    for example in &WIDE_EXAMPLES {
+        assert!(rt; comes_out(rt.alloc(), example)?);
+    }
+    Ok(())
+}
+
 // The transcript of a script, which is written whole.
 fn tells(alloc: Global, xs: &[u8], script: &[u8], told: &str) -> Result<bool, Fail> {
     let mut desk = desk(alloc, xs, script)?;
-    let (status, out, err) = run(alloc, &CALL, &mut desk, 4096)?;
-    Ok(status == Status::Done && out.bytes() == told.as_bytes() && err.bytes().is_empty())
+    writes(alloc, &CALL, &mut desk, told)
 }
 
 // A refusal: its status and its line.
@@ -142,13 +178,32 @@ fn croaks(rt: HostRuntime) -> Result<(), Fail> {
     Ok(())
 }
 
+// Words that are no command.
+fn is_usage(alloc: Global, words: &[&str]) -> Result<bool, Fail> {
+    refuses(alloc, words, ADD, b"", Status::Usage, USAGE)
+}
+
+#[test]
+fn usages(rt: HostRuntime) -> Result<(), Fail> {
+    let alloc = rt.alloc();
+    assert!(rt; is_usage(alloc, &[])?);
+    assert!(rt; is_usage(alloc, &["compile"])?);
+    assert!(rt; is_usage(alloc, &["call", "a.xs"])?);
+    assert!(rt; is_usage(alloc, &["run", "a"])?);
+    assert!(rt; is_usage(alloc, &["example", "0"])?);
+    assert!(rt; is_usage(alloc, &["example", "03"])?);
+    assert!(rt; is_usage(alloc, &["check", "-x"])?);
+    assert!(rt; is_usage(alloc, &["-", "a.xs"])?);
+    // typemaps are not read so far
+    assert!(rt; is_usage(alloc, &["check", "a.xs", "a.txt"])?);
+    assert!(rt; is_usage(alloc, &["compile", "a.xs", "a.txt"])?);
+    assert!(rt; is_usage(alloc, &["call", "a.xs", "a.txt", "a.txt"])?);
+    Ok(())
+}
+
 #[test]
 fn refusals(rt: HostRuntime) -> Result<(), Fail> {
     let alloc = rt.alloc();
-    let usage =
-        "usage: xsubpp compile FILE [TYPEMAP]\n       xsubpp call FILE SCRIPT [TYPEMAP]\n       xsubpp run TEXT SCRIPT\n       xsubpp check FILE [TYPEMAP]\n       xsubpp example N\n";
-    assert!(rt; refuses(alloc, &[], ADD, b"", Status::Usage, usage)?);
-    assert!(rt; refuses(alloc, &["call", "a.xs"], ADD, b"", Status::Usage, usage)?);
     assert!(rt;
         refuses(
             alloc,
@@ -169,6 +224,27 @@ fn refusals(rt: HostRuntime) -> Result<(), Fail> {
             "b.txt: missing\n",
         )?
     );
+    // no name is the name of a file too
+    assert!(rt;
+        refuses(
+            alloc,
+            &["check", ""],
+            ADD,
+            b"",
+            Status::Missing,
+            ": missing\n"
+        )?
+    );
+    assert!(rt;
+        refuses(
+            alloc,
+            &COMPILE,
+            b"int\n",
+            b"",
+            Status::Refused,
+            "a.xs:1: 102 no MODULE line\n",
+        )?
+    );
     // the XS file decides before the script
     assert!(rt;
         refuses(
@@ -177,7 +253,7 @@ fn refusals(rt: HostRuntime) -> Result<(), Fail> {
             b"int\n",
             b"cal\n",
             Status::Refused,
-            "a.xs:0: 999 form not built yet\n",
+            "a.xs:1: 102 no MODULE line\n",
         )?
     );
     assert!(rt;
@@ -208,6 +284,92 @@ fn edges(rt: HostRuntime) -> Result<(), Fail> {
     assert!(rt; status == Status::WriteFault);
     assert!(rt; out.bytes() == b"boot retur".as_slice());
     assert!(rt; err.bytes().is_empty());
+    Ok(())
+}
+
+// What `compile` writes into a sink of sixteen bytes a write, whose second write fails.
+#[test]
+fn second_write_fails(rt: HostRuntime) -> Result<(), Fail> {
+    let alloc = rt.alloc();
+    let mut desk = desk(alloc, ADD, b"")?;
+    let words = [text(alloc, b"compile")?, text(alloc, b"a.xs")?];
+    let mut out = MemSink::new(alloc, 16, 4096).map_err(|_| "memory")?;
+    out.fail_at(2).map_err(|_| "memory")?;
+    let mut err = MemSink::new(alloc, 16, 4096).map_err(|_| "memory")?;
+    let status = xsubpp(alloc, &words, &mut desk, &mut out, &mut err);
+    assert!(rt; status == Status::WriteFault);
+    assert!(rt; out.bytes() == b"/* xsubpp glue, ".as_slice());
+    assert!(rt; err.bytes().is_empty());
+    Ok(())
+}
+
+// `check` of a file that stands alone, then of none, then where the read fails.
+// Whether `check` refuses an XS file so.
+fn check_refuses(alloc: Global, xs: &str, line: &str) -> Result<bool, Fail> {
+    refuses(alloc, &CHECK, xs.as_bytes(), b"", Status::Refused, line)
+}
+
+// Each stage decides before the next, whatever the lines.
+#[test]
+fn first_faults(rt: HostRuntime) -> Result<(), Fail> {
+    let alloc = rt.alloc();
+    let sum = "  CODE:\n    RETVAL = a;\n  OUTPUT:\n    RETVAL\n";
+    let other = "MODULE = M PACKAGE = M\n\nvoid\nf(int a)\n";
+    assert!(rt; check_refuses(alloc, other, "a.xs:3: 999 form not built yet\n")?);
+    assert!(rt;
+        check_refuses(
+            alloc,
+            "\n#define N 1\n\nMODULE = M\n\nvoid\n",
+            "a.xs:2: 999 form not built yet\n",
+        )?
+    );
+    let twice = format!(in alloc;
+        "MODULE = M PACKAGE = M\n\nint\nf(int a, int a)\n{sum}\nint\ng(int a, int a)\n{sum}"
+    )?;
+    assert!(rt; check_refuses(alloc, twice.as_str(), "a.xs:4: 303 parameter twice: a\n")?);
+    let with_other = format!(in alloc; "{twice}\nvoid\nf()\n")?;
+    assert!(rt;
+        check_refuses(
+            alloc,
+            with_other.as_str(),
+            "a.xs:17: 999 form not built yet\n"
+        )?
+    );
+    let same = format!(in alloc;
+        "MODULE = M PACKAGE = M\n\nint\nf(int a)\n{sum}\nint\nf(int a)\n{sum}"
+    )?;
+    assert!(rt; check_refuses(alloc, same.as_str(), "a.xs:11: 407 name twice: M::f\n")?);
+    let later = format!(in alloc; "{same}\nint\ng(int b, int a, int b)\n{sum}")?;
+    assert!(rt; check_refuses(alloc, later.as_str(), "a.xs:18: 303 parameter twice: b\n")?);
+    let directive = format!(in alloc; "{later}\n#if 1\n")?;
+    assert!(rt;
+        check_refuses(
+            alloc,
+            directive.as_str(),
+            "a.xs:24: 104 preprocessor line not taken\n",
+        )?
+    );
+    Ok(())
+}
+
+#[test]
+fn checks(rt: HostRuntime) -> Result<(), Fail> {
+    let alloc = rt.alloc();
+    let mut desk = MemDesk::new(alloc);
+    desk.add(text(alloc, b"a.xs")?, text(alloc, ADD)?)
+        .map_err(|_| "memory")?;
+    assert!(rt; writes(alloc, &CHECK, &mut desk, "accepted\n")?);
+    let (status, out, err) = run(alloc, &["check", "none.xs"], &mut desk, 4096)?;
+    assert!(rt; status == Status::Missing);
+    assert!(rt; out.bytes().is_empty());
+    assert!(rt; err.bytes() == b"none.xs: missing\n".as_slice());
+
+    let mut failing = MemDesk::new(alloc);
+    failing.fail_at(1).map_err(|_| "memory")?;
+    let (status, out, err) = run(alloc, &["check", "none.xs"], &mut failing, 4096)?;
+    assert!(rt; status == Status::ReadFault);
+    assert!(rt; out.bytes().is_empty());
+    assert!(rt; err.bytes() == b"none.xs: read fault\n".as_slice());
     Ok(())
 }
 

@@ -4,10 +4,12 @@ ghost use Rattle.std.specs.Prelude.{◌≡◌, ◌≢◌, ◌⊎◌, None};
 ghost use Rattle.xs_base.specs.Causes.{Rose};
 ghost use Rattle.xs_base.specs.Sinks.{AppendsPrefix, appended};
 ghost use Rattle.xs_call.specs.Job.{EachTextLeavesNothing, EachTextRunsAsDeclared};
-ghost use Rattle.xsubpp.specs.Answers.{Ends, EndsByReads, answer, usage};
+ghost use Rattle.xsubpp.specs.Answers.{Ends, EndsByReads, IsStatus, answer, usage};
+ghost use Rattle.xsubpp.specs.Lacking.{LacksFile};
 ghost use Rattle.xsubpp.specs.Words.{command_of};
+ghost use Rattle.xsubpp.specs.Written.{IsGranted, Wrote, WroteByReads};
 
-use crate::reading::answer_call;
+use crate::reading::answer_to;
 use crate::status::Status;
 use crate::words::read_words;
 use std::alloc::Global;
@@ -69,15 +71,30 @@ pub fn xsubpp<D: Desk, O: Sink, E: Sink>(
         → ¬ Rose (O.fault_count out.old) (O.fault_count out.new) → ¬ Rose (E.fault_count err.old) (E.fault_count err.new)
         → (result ≡ (answer words.now files).status) ⊎ (result ≡ Status.Memory)) }
 
+    // Where no read failed, it is so but for a line that could not be written.
+    ensures decided { ForSome (D.files desk.old) (λ files. ¬ Rose (D.fault_count desk.old) (D.fault_count desk.new)
+        → IsStatus (answer words.now files).status result) }
+
+    // A file is missing exactly where a named file is lacking, and no earlier one is longer than the limit.
+    ensures lacking { result ≡ Status.Missing → ForSome (D.files desk.old) (λ files. LacksFile (command_of words.now) files) }
+    ensures missing_exact { ForSome (D.files desk.old) (λ files. ¬ Rose (D.fault_count desk.old) (D.fault_count desk.new)
+        → LacksFile (command_of words.now) files → IsStatus Status.Missing result) }
+
+    // The text is out exactly where the files are there and all that is read is taken, and then it is what the interface says.
+    ensures written { result ≡ Status.Done → ForSome (D.files desk.old) (λ files. Wrote words.now files (O.told out.old) (O.told out.new)) }
+    ensures granted { ForSome (D.files desk.old) (λ files. ¬ Rose (D.fault_count desk.old) (D.fault_count desk.new)
+        → IsGranted words.now files → IsStatus Status.Done result) }
+    ensures written_by_reads { result ≡ Status.Done → WroteByReads words.now (O.told out.old) (O.told out.new) }
+
     // Whatever the XS file and the script: the C text that is written, read and run, tells what the file declares, and leaves nothing
     // behind.
     ensures text { EachTextRunsAsDeclared }
     ensures exact { EachTextLeavesNothing }
 {
-    let Some(files) = read_words(words) else {
+    let Some(command) = read_words(words) else {
         return finish(Status::Usage, b"", USAGE, out, err);
     };
-    match answer_call(alloc, desk, files) {
+    match answer_to(alloc, desk, command) {
         Ok(a) => finish(a.status, a.out.as_slice(), a.err.as_slice(), out, err),
         Err(Memory) => Status::Memory,
     }

@@ -1,34 +1,59 @@
 //! The words of the command line.
 ghost use Rattle.std.specs.Prelude.{◌≡◌, MatchOption, None, Some};
 ghost use Rattle.std.specs.Str.{is_utf8};
-ghost use Rattle.xsubpp.specs.Words.{Call, begins_with_dash, command_of, is_file_word};
+ghost use Rattle.xsubpp.specs.Words.{begins_with_dash, command_of, is_file_word, said, with_file, with_script};
 
 use std::str;
 use xs_base::Bytes;
 
-/// The files that `call` is given.
+/// A command, with the words that name its files.
 #[derive(Clone, Copy)]
-pub struct CallWords<'a> {
-    pub xs: &'a Bytes,
-    pub script: &'a Bytes,
+pub enum CommandWords<'a> {
+    /// `compile FILE`: the glue text of an XS file.
+    Compile(&'a Bytes),
+    /// `call FILE SCRIPT`: the transcript of a script's calls of the XSUBs of an XS file.
+    Call(&'a Bytes, &'a Bytes),
+    /// `check FILE`: whether an XS file is taken.
+    Check(&'a Bytes),
 }
 
-/// The command that the words give. So far this is `call FILE SCRIPT` alone.
-pub fn read_words(words: &[Bytes]) -> Option<CallWords<'_>>
-    ensures { MatchOption result (command_of words.now ≡ None) (λ c. command_of words.now ≡ Some (Call c.xs.now c.script.now)) }
+/// The command that the words give.
+pub fn read_words(words: &[Bytes]) -> Option<CommandWords<'_>>
+    ensures { MatchOption result (command_of words.now ≡ None) (λ c. command_of words.now ≡ Some (said c)) }
 {
     match words {
-        [command, xs, script] => {
-            if command.as_slice() == b"call".as_slice()
-                && is_file_word(xs.as_slice())
-                && is_file_word(script.as_slice())
-            {
-                Some(CallWords { xs, script })
-            } else {
-                None
-            }
-        }
+        [command, file] => with_file(command.as_slice(), file),
+        [command, file, script] => with_script(command.as_slice(), file, script),
         _ => None,
+    }
+}
+
+// `compile FILE` or `check FILE`.
+fn with_file<'a>(command: &[u8], file: &'a Bytes) -> Option<CommandWords<'a>>
+    ensures { MatchOption result (with_file command.now file.now ≡ None) (λ c. with_file command.now file.now ≡ Some (said c)) }
+{
+    if !is_file_word(file.as_slice()) {
+        None
+    } else if command == b"compile".as_slice() {
+        Some(CommandWords::Compile(file))
+    } else if command == b"check".as_slice() {
+        Some(CommandWords::Check(file))
+    } else {
+        None
+    }
+}
+
+// `call FILE SCRIPT`.
+fn with_script<'a>(command: &[u8], file: &'a Bytes, script: &'a Bytes) -> Option<CommandWords<'a>>
+    ensures { MatchOption result (with_script command.now file.now script.now ≡ None) (λ c. with_script command.now file.now script.now ≡ Some (said c)) }
+{
+    if command == b"call".as_slice()
+        && is_file_word(file.as_slice())
+        && is_file_word(script.as_slice())
+    {
+        Some(CommandWords::Call(file, script))
+    } else {
+        None
     }
 }
 

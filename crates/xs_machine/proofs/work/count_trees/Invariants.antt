@@ -1,6 +1,6 @@
 use Rattle.std.proofs.Common.{◌≡◌, ◌+◌, ◌≤◌}
-use Rattle.xs_machine.specs.Arena.{trees_at}
-use Rattle.xs_machine.specs.Tree.{tree_count}
+use Rattle.xs_ccheck.specs.Arena.{trees_at}
+use Rattle.xs_ccheck.specs.Tree.{tree_count}
 use Rattle.xs_machine.proofs.work.count_trees.Given as goal
 
 abbrev pub invariant-loop-rest : goal.invariant-loop-rest

@@ -1,6 +1,6 @@
 use Rattle.std.proofs.Common.{◌≡◌, ◌+◌, drop}
 use Rattle.std.specs.List.{prefix_len}
-use Rattle.xs_script.specs.Lex.{is_digit}
+use Rattle.xs_base.specs.Scanning.{is_digit}
 use Rattle.xs_script.proofs.lexing.digits_len.Given as goal
 
 abbrev pub invariant-loop-b : goal.invariant-loop-b

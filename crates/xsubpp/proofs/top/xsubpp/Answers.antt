@@ -1,7 +1,11 @@
 use Rattle.std.proofs.Common.{inl, inr, ap, subst, ◌∙◌}
 use Rattle.xs_base.specs.Sinks.{appended, AppendsPrefix}
+use Rattle.xs_call.proofs.Join.{text_leaves_nothing, text_runs}
 use Rattle.xsubpp.specs.declared.status.Status.TheVariants.{Done, Refused, Missing}
-use Rattle.xsubpp.proofs.Ending.{complete, ends, ends_by, no_command, prefix, untouched}
+use Rattle.xsubpp.specs.Words.{said}
+use Rattle.xsubpp.proofs.Ending.{as_status, complete, decided, decided_usage, ends, ends_by, no_command, prefix, untouched}
+use Rattle.xsubpp.proofs.FilesTold.{lacks_file_where, missing}
+use Rattle.xsubpp.proofs.TextsWritten.{granted, wrote, wrote_by_reads}
 use Rattle.xsubpp.proofs.top.xsubpp.Goals as goal
 
 pub returns-in-Ok-clause-done : goal.returns-in-Ok-clause-done
@@ -47,42 +51,81 @@ returns-in_default-clause-complete g c files tells desk_fine out_fine err_fine =
 
 pub returns-in-Ok-clause-done_by_reads : goal.returns-in-Ok-clause-done_by_reads
 returns-in-Ok-clause-done_by_reads g c is =
-    let r = c.in-Ok.ensures.reads in
     record {
-      xs = c.in-Some.files.xs.now;
-      script = c.in-Some.files.script.now;
-      first = r.0;
-      second = r.1.0;
-      said = c.in-Some.ensures;
-      ends = ends_by c.in-Ok.a _ Done _ _ _ _ _ r.1.1 c.finish-in-Ok.ensures.status
+      command = said c.in-Some.command;
+      given = c.in-Ok.ensures.reads.0;
+      is_said = c.in-Some.ensures;
+      ends = ends_by c.in-Ok.a _ Done _ _ _ _ _ c.in-Ok.ensures.reads.1 c.finish-in-Ok.ensures.status
           (λ e. c.finish-in-Ok.ensures.out e ∙ ap (appended _) c.as_slice.ensures)
           (λ e. c.finish-in-Ok.ensures.err e ∙ ap (appended _) c.as_slice-in-Ok.ensures) (λ e. cc) is;
     }
 
 pub returns-in-Ok-clause-refused_by_reads : goal.returns-in-Ok-clause-refused_by_reads
 returns-in-Ok-clause-refused_by_reads g c is =
-    let r = c.in-Ok.ensures.reads in
     record {
-      xs = c.in-Some.files.xs.now;
-      script = c.in-Some.files.script.now;
-      first = r.0;
-      second = r.1.0;
-      said = c.in-Some.ensures;
-      ends = ends_by c.in-Ok.a _ Refused _ _ _ _ _ r.1.1 c.finish-in-Ok.ensures.status
+      command = said c.in-Some.command;
+      given = c.in-Ok.ensures.reads.0;
+      is_said = c.in-Some.ensures;
+      ends = ends_by c.in-Ok.a _ Refused _ _ _ _ _ c.in-Ok.ensures.reads.1 c.finish-in-Ok.ensures.status
           (λ e. c.finish-in-Ok.ensures.out e ∙ ap (appended _) c.as_slice.ensures)
           (λ e. c.finish-in-Ok.ensures.err e ∙ ap (appended _) c.as_slice-in-Ok.ensures) (λ e. cc) is;
     }
 
 pub returns-in-Ok-clause-missing_by_reads : goal.returns-in-Ok-clause-missing_by_reads
 returns-in-Ok-clause-missing_by_reads g c is =
-    let r = c.in-Ok.ensures.reads in
     record {
-      xs = c.in-Some.files.xs.now;
-      script = c.in-Some.files.script.now;
-      first = r.0;
-      second = r.1.0;
-      said = c.in-Some.ensures;
-      ends = ends_by c.in-Ok.a _ Missing _ _ _ _ _ r.1.1 c.finish-in-Ok.ensures.status
+      command = said c.in-Some.command;
+      given = c.in-Ok.ensures.reads.0;
+      is_said = c.in-Some.ensures;
+      ends = ends_by c.in-Ok.a _ Missing _ _ _ _ _ c.in-Ok.ensures.reads.1 c.finish-in-Ok.ensures.status
           (λ e. c.finish-in-Ok.ensures.out e ∙ ap (appended _) c.as_slice.ensures)
           (λ e. c.finish-in-Ok.ensures.err e ∙ ap (appended _) c.as_slice-in-Ok.ensures) (λ e. cc) is;
     }
+
+pub returns-in-Ok-clause-decided : goal.returns-in-Ok-clause-decided
+returns-in-Ok-clause-decided g c files tells desk_fine =
+    decided _ files _ _ _ _ c.in-Ok.a _ c.in-Ok.ensures.told c.in-Some.ensures tells c.finish-in-Ok.ensures.status desk_fine
+
+pub returns-in-Ok-clause-missing_exact : goal.returns-in-Ok-clause-missing_exact
+returns-in-Ok-clause-missing_exact g c files tells desk_fine lacks =
+    as_status _ Missing _ (missing c.args.words.now files lacks) (decided _ files _ _ _ _ c.in-Ok.a _ c.in-Ok.ensures.told c.in-Some.ensures tells c.finish-in-Ok.ensures.status desk_fine)
+
+pub returns-in-Ok-clause-granted : goal.returns-in-Ok-clause-granted
+returns-in-Ok-clause-granted g c files tells desk_fine is_granted =
+    as_status _ Done _ (granted c.args.words.now files is_granted) (decided _ files _ _ _ _ c.in-Ok.a _ c.in-Ok.ensures.told c.in-Some.ensures tells c.finish-in-Ok.ensures.status desk_fine)
+
+pub returns-in_default-clause-decided : goal.returns-in_default-clause-decided
+returns-in_default-clause-decided g c files tells desk_fine =
+    decided_usage _ files _ c.in_default.ensures c.finish.ensures.status
+
+pub returns-in_default-clause-missing_exact : goal.returns-in_default-clause-missing_exact
+returns-in_default-clause-missing_exact g c files tells desk_fine lacks =
+    as_status _ Missing _ (missing c.args.words.now files lacks) (decided_usage _ files _ c.in_default.ensures c.finish.ensures.status)
+
+pub returns-in_default-clause-granted : goal.returns-in_default-clause-granted
+returns-in_default-clause-granted g c files tells desk_fine is_granted =
+    as_status _ Done _ (granted c.args.words.now files is_granted) (decided_usage _ files _ c.in_default.ensures c.finish.ensures.status)
+
+pub returns-in-Ok-clause-lacking : goal.returns-in-Ok-clause-lacking
+returns-in-Ok-clause-lacking g c is files tells =
+    lacks_file_where c.args.words.now files _ _ _ _ (ends _ files _ _ _ _ c.in-Ok.a Missing _ _ _ _ _ c.in-Ok.ensures.told c.in-Some.ensures tells c.finish-in-Ok.ensures.status
+    (λ e. c.finish-in-Ok.ensures.out e ∙ ap (appended _) c.as_slice.ensures)
+    (λ e. c.finish-in-Ok.ensures.err e ∙ ap (appended _) c.as_slice-in-Ok.ensures) (λ e. cc) (λ e. cc) is)
+
+pub returns-in-Ok-clause-written : goal.returns-in-Ok-clause-written
+returns-in-Ok-clause-written g c is files tells =
+    wrote text_runs text_leaves_nothing c.args.words.now files _ _ _ _ (ends _ files _ _ _ _ c.in-Ok.a Done _ _ _ _ _ c.in-Ok.ensures.told c.in-Some.ensures tells c.finish-in-Ok.ensures.status
+    (λ e. c.finish-in-Ok.ensures.out e ∙ ap (appended _) c.as_slice.ensures)
+    (λ e. c.finish-in-Ok.ensures.err e ∙ ap (appended _) c.as_slice-in-Ok.ensures) (λ e. cc) (λ e. cc) is)
+
+pub returns-in-Ok-clause-written_by_reads : goal.returns-in-Ok-clause-written_by_reads
+returns-in-Ok-clause-written_by_reads g c is =
+    wrote_by_reads text_runs text_leaves_nothing _ _ _ _ _
+    (record {
+      command = said c.in-Some.command;
+      given = c.in-Ok.ensures.reads.0;
+      is_said = c.in-Some.ensures;
+      ends = ends_by c.in-Ok.a _ Done _ _ _ _ _ c.in-Ok.ensures.reads.1 c.finish-in-Ok.ensures.status
+          (λ e. c.finish-in-Ok.ensures.out e ∙ ap (appended _) c.as_slice.ensures)
+          (λ e. c.finish-in-Ok.ensures.err e ∙ ap (appended _) c.as_slice-in-Ok.ensures) (λ e. cc) is;
+    })

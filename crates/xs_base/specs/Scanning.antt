@@ -1,0 +1,52 @@
+-- The bytes of words, digits and blanks, and what stands in front of a text.
+use Rattle.std.specs.List.{list_all}
+use Rattle.std.specs.Prelude.{ℕ, ◌+◌, ◌*◌, ◌-◌, fold, Bool, true, false, ◌&&◌, ◌||◌, ◌==◌, if◌then◌else◌, nat_le, List, [], ◌∷◌, Option, None, Some, option_and_then}
+
+-- a space or a tab
+abbrev pub is_blank : ℕ → Bool
+is_blank b = b == 32 || b == 9
+
+-- a decimal digit
+abbrev pub is_digit : ℕ → Bool
+is_digit b = nat_le 48 b && nat_le b 57
+
+-- a letter of either case
+abbrev pub is_letter : ℕ → Bool
+is_letter b = (nat_le 65 b && nat_le b 90) || (nat_le 97 b && nat_le b 122)
+
+-- the first byte of an identifier
+abbrev pub begins_word : ℕ → Bool
+begins_word b = is_letter b || b == 95
+
+-- a byte of an identifier, wherever it stands but in front
+abbrev pub is_word_byte : ℕ → Bool
+is_word_byte b = begins_word b || is_digit b
+
+-- An identifier (C standard) is one byte that begins a word, and word bytes behind it.
+abbrev pub is_identifier : List ℕ → Bool
+is_identifier [] = false
+is_identifier (b ∷ bs) = begins_word b && list_all is_word_byte bs
+
+-- a text of blanks alone
+abbrev pub is_blank_line : List ℕ → Bool
+is_blank_line [] = true
+is_blank_line (b ∷ bs) = if is_blank b then is_blank_line bs else false
+
+-- the text from its first byte on that is no blank
+abbrev pub behind_blanks : List ℕ → List ℕ
+behind_blanks [] = []
+behind_blanks (b ∷ bs) = if is_blank b then behind_blanks bs else b ∷ bs
+
+-- what stands behind a byte that the text begins with
+abbrev pub after_byte : ℕ → List ℕ → Option (List ℕ)
+after_byte w [] = None
+after_byte w (b ∷ bs) = if b == w then Some bs else None
+
+-- what stands behind a word that the text begins with
+abbrev pub after_word : List ℕ → List ℕ → Option (List ℕ)
+after_word [] text = Some text
+after_word (w ∷ ws) text = option_and_then (after_word ws) (after_byte w text)
+
+-- the value of decimal digits
+abbrev pub value_of_digits : List ℕ → ℕ
+value_of_digits = fold (λ n b. 10 * n + (b - 48)) 0

@@ -1,0 +1,127 @@
+//! The bytes of words, digits and blanks, and what stands in front of a text.
+ghost use Rattle.std.specs.List.{list_all};
+ghost use Rattle.std.specs.Prelude.{◌≡◌, ◌^◌, ◌≤◌, IfNone, IfSome, MatchOption, None, Some};
+ghost use Rattle.xs_base.specs.Scanning as spec;
+
+/// A space or a tab.
+pub fn is_blank(b: u8) -> bool
+    ensures { result ≡ spec.is_blank b }
+{
+    b == b' ' || b == b'\t'
+}
+
+/// A decimal digit.
+pub fn is_digit(b: u8) -> bool
+    ensures { result ≡ spec.is_digit b }
+{
+    b'0' <= b && b <= b'9'
+}
+
+/// A letter of either case.
+pub fn is_letter(b: u8) -> bool
+    ensures { result ≡ spec.is_letter b }
+{
+    b'A' <= b && b <= b'Z' || b'a' <= b && b <= b'z'
+}
+
+/// The first byte of an identifier: a letter or `_`.
+pub fn begins_word(b: u8) -> bool
+    ensures { result ≡ spec.begins_word b }
+{
+    is_letter(b) || b == b'_'
+}
+
+/// A byte of an identifier: a letter, a digit or `_`.
+pub fn is_word_byte(b: u8) -> bool
+    ensures { result ≡ spec.is_word_byte b }
+{
+    begins_word(b) || is_digit(b)
+}
+
+fn are_word_bytes(text: &[u8]) -> bool
+    ensures { result ≡ list_all spec.is_word_byte text.now }
+{
+    text.iter().all(|b| is_word_byte(*b))
+}
+
+/// Whether a text is an identifier: word bytes, one at least, of which the first is no digit (C standard).
+pub fn is_identifier(text: &[u8]) -> bool
+    ensures { result ≡ spec.is_identifier text.now }
+{
+    match text {
+        [] => false,
+        [first, rest @ ..] => begins_word(*first) && are_word_bytes(rest),
+    }
+}
+
+/// Whether a text has blanks alone.
+pub fn is_blank_line(text: &[u8]) -> bool
+    ensures { result ≡ spec.is_blank_line text.now }
+{
+    for b in text {
+        if !is_blank(*b) {
+            return false;
+        }
+    }
+    true
+}
+
+/// The text from its first byte on that is no blank.
+pub fn behind_blanks(text: &[u8]) -> &[u8]
+    ensures { result.now ≡ spec.behind_blanks text.now }
+{
+    let mut rest = text;
+    while let [b, more @ ..] = rest {
+        if !is_blank(*b) {
+            return rest;
+        }
+        rest = more;
+    }
+    rest
+}
+
+/// What stands behind a byte, where the text begins with it.
+pub fn after_byte(byte: u8, text: &[u8]) -> Option<&[u8]>
+    ensures { MatchOption result (spec.after_byte byte text.now ≡ None) (λ rest. spec.after_byte byte text.now ≡ Some rest.now) }
+{
+    match text {
+        [first, rest @ ..] => { if *first == byte { Some(rest) } else { None } }
+        [] => None,
+    }
+}
+
+/// What stands behind a word, where the text begins with it.
+pub fn after_word<'a>(word: &[u8], text: &'a [u8]) -> Option<&'a [u8]>
+    ensures { MatchOption result (spec.after_word word.now text.now ≡ None) (λ rest. spec.after_word word.now text.now ≡ Some rest.now) }
+{
+    let mut rest = text;
+    for byte in word {
+        rest = after_byte(*byte, rest)?;
+    }
+    Some(rest)
+}
+
+/// Whether a text has digits alone.
+pub fn are_digits(text: &[u8]) -> bool
+    ensures { result ≡ list_all spec.is_digit text.now }
+{
+    text.iter().all(|b| is_digit(*b))
+}
+
+/// The value of decimal digits, if it has 64 bits.
+pub fn digits_value(digits: &[u8]) -> Option<u64>
+    ensures some { IfSome result (λ n. n ≡ spec.value_of_digits digits.now) }
+    ensures none { IfNone result (2 ^ 64 ≤ spec.value_of_digits digits.now) }
+{
+    let mut n: u64 = 0;
+    for b in digits {
+        let Some(tens) = n.checked_mul(10) else {
+            return None;
+        };
+        let Some(more) = tens.checked_add(b.saturating_sub(48) as u64) else {
+            return None;
+        };
+        n = more;
+    }
+    Some(n)
+}

@@ -1,0 +1,177 @@
+-- Names, as the types stage looks them up: the variables of an XSUB, and the functions of a file.
+use Rattle.std.proofs.Common.{◌≡◌, ℕ, zero, suc, ◌+◌, ◌<◌, ◌&&◌, ◌||◌, Bool, true, false, not, cond, List, [], ◌∷◌, ◌++◌, codes, map, length, slice_get, Option, Some, None, refl, sym, ap, ◌∙◌, arith}
+use Rattle.std.proofs.lemmas.Slice.Eq.{bytes_eq-Decides}
+use Rattle.std.specs.List.{list_any}
+use Rattle.std.specs.Str.{bytes_eq}
+use Rattle.xs_csyn.proofs.Values.{is_among-fewer}
+use Rattle.xs_iface.specs.declared.words.TheConstants.{RESERVED}
+use Rattle.xs_iface.specs.declared.xsub.Param.{Param}
+use Rattle.xs_base.specs.Scanning.{is_identifier}
+use Rattle.xs_iface.specs.SumForm.{All, Differ}
+use Rattle.xs_iface.specs.Words.{is_free, is_reserved}
+use Rattle.xs_ccheck.specs.declared.code.ValueType.TheVariants.{Number, Scalar}
+use Rattle.xs_ccheck.specs.declared.resolve_names.Found.{Found}
+use Rattle.xs_ccheck.specs.declared.resolve_names.Local.{Local}
+use Rattle.xs_ccheck.specs.Typing.{interface_words, is_among, is_interface_word, place_from, variable_of}
+use Rattle.xs_stub.specs.Stub.{name_or_nothing}
+use Rattle.xs_values.specs.declared.kind.Kind.TheVariants.{I32}
+
+-- ---- words
+
+abbrev reserved_words : List (List ℕ)
+reserved_words = map (λ word. word.now) RESERVED
+
+no_word : (word : List ℕ) → is_reserved word ≡ false → is_among reserved_words word ≡ false
+unfolding is_reserved
+no_word word h = h
+
+both_false : (a b : Bool) → (a || b) ≡ false → (a ≡ false) × (b ≡ false)
+both_false true b h = absurd cc
+both_false false b h = (refl, h)
+
+pub not_reserved : (word : List ℕ) → is_free word ≡ true → is_reserved word ≡ false
+not_reserved word h = by (is_identifier word) (is_reserved word) h
+  where
+    by : (a b : Bool) → (a && not b) ≡ true → b ≡ false
+    by true true h = absurd cc
+    by true false h = refl
+    by false b h = absurd cc
+
+pub same : (name : List ℕ) → bytes_eq name name ≡ true
+same name = (bytes_eq-Decides name name).1 refl
+
+pub no_interface_word : (word : List ℕ) → is_reserved word ≡ false → is_interface_word word ≡ false
+unfolding is_interface_word
+no_interface_word word h = is_among-fewer reserved_words interface_words word refl (no_word word h)
+
+flipped : (x y : List ℕ) → bytes_eq y x ≡ false → bytes_eq x y ≡ false
+flipped x y h = by (bytes_eq x y) refl
+  where
+    by : (b : Bool) → bytes_eq x y ≡ b → b ≡ false
+    by true e = let back : bytes_eq y x ≡ true = (bytes_eq-Decides y x).1 (sym ((bytes_eq-Decides x y).0 e)) in absurd cc
+    by false e = refl
+
+pub no_retval : (word : List ℕ) → is_reserved word ≡ false → bytes_eq word (codes "RETVAL") ≡ false
+no_retval word h = flipped word (codes "RETVAL") (both_false (bytes_eq (codes "RETVAL") word) false (is_among-fewer reserved_words (codes "RETVAL" ∷ []) word refl (no_word word h))).0
+
+pub no_scalar : (word : List ℕ) → is_reserved word ≡ false → bytes_eq word (codes "RETVALSV") ≡ false
+no_scalar word h = flipped word (codes "RETVALSV") (both_false (bytes_eq (codes "RETVALSV") word) false (is_among-fewer reserved_words (codes "RETVALSV" ∷ []) word refl (no_word word h))).0
+
+-- ---- variables
+
+-- a variable of type `int`, as it is found
+abbrev pub int_at : ℕ → Found
+int_at slot = record { of_type = Number I32; slot = slot }
+
+abbrev pub scalar_at : ℕ → Found
+scalar_at slot = record { of_type = Scalar; slot = slot }
+
+abbrev pub int_local : List ℕ → ℕ → Local
+int_local name slot = record { name = name; of_type = Number I32; slot = slot }
+
+abbrev pub scalar_local : List ℕ → ℕ → Local
+scalar_local name slot = record { name = name; of_type = Scalar; slot = slot }
+
+-- the variables of parameters, from a slot on
+abbrev pub locals_from : ℕ → List Param → List Local
+locals_from slot [] = []
+locals_from slot (p ∷ ps) = int_local p.name slot ∷ locals_from (slot + 1) ps
+
+-- Each of these parameters is found, at the slots in their order.
+abbrev pub Known : List Local → ℕ → List Param → Type 0
+Known variables slot [] = Unit {0}
+Known variables slot (p ∷ ps) = (variable_of variables p.name ≡ Some (int_at slot)) × Known variables (slot + 1) ps
+
+-- None of them is found yet.
+abbrev pub Unknown : List Local → List Param → Type 0
+Unknown variables ps = All (λ p. variable_of variables p.name ≡ None) ps
+
+abbrev found_first : Local → Option Found → Bool → Option Found
+found_first v others b = cond b (Some (record { of_type = v.of_type; slot = v.slot })) others
+
+passed_by : (v : Local) (all : List Local) (name : List ℕ) → bytes_eq v.name name ≡ false → variable_of (v ∷ all) name ≡ variable_of all name
+unfolding variable_of
+passed_by v all name h = ap (found_first v (variable_of all name)) h
+
+found_here : (v : Local) (all : List Local) (name : List ℕ) → bytes_eq v.name name ≡ true → variable_of (v ∷ all) name ≡ Some (record { of_type = v.of_type; slot = v.slot })
+unfolding variable_of
+found_here v all name h = ap (found_first v (variable_of all name)) h
+
+found_at_once : (v : Local) (all : List Local) → variable_of (v ∷ all) v.name ≡ Some (record { of_type = v.of_type; slot = v.slot })
+found_at_once v all = found_here v all v.name (same v.name)
+
+none_found : (name : List ℕ) → variable_of [] name ≡ None
+unfolding variable_of
+none_found name = refl
+
+known_behind : (v : Local) (all : List Local) (slot : ℕ) (ps : List Param) → list_any (λ later. bytes_eq v.name later) (map (λ p. p.name) ps) ≡ false → Known all slot ps → Known (v ∷ all) slot ps
+known_behind v all slot [] h k = tt
+known_behind v all slot (p ∷ ps) h k =
+    let each = both_false (bytes_eq v.name p.name) _ h in
+    (passed_by v all p.name each.0 ∙ k.0, known_behind v all (slot + 1) ps each.1 k.1)
+
+-- The variables of parameters that differ are all found.
+pub all_known : (slot : ℕ) (ps : List Param) (behind : List Local) → Differ (map (λ p. p.name) ps) → Known (locals_from slot ps ++ behind) slot ps
+all_known slot [] behind d = tt
+all_known slot (p ∷ ps) behind d =
+    (found_at_once (int_local p.name slot) (locals_from (slot + 1) ps ++ behind), known_behind (int_local p.name slot) (locals_from (slot + 1) ps ++ behind) (slot + 1) ps d.0 (all_known (slot + 1) ps behind d.1))
+
+-- A word that names no parameter is looked up behind them.
+pub no_param : (word : List ℕ) (slot : ℕ) (ps : List Param) (behind : List Local) → All (λ p. bytes_eq p.name word ≡ false) ps → variable_of (locals_from slot ps ++ behind) word ≡ variable_of behind word
+no_param word slot [] behind h = refl
+no_param word slot (p ∷ ps) behind h = passed_by (int_local p.name slot) (locals_from (slot + 1) ps ++ behind) word h.0 ∙ no_param word (slot + 1) ps behind h.1
+
+none_after : (all : List Local) (v : Local) (name : List ℕ) → variable_of all name ≡ None → bytes_eq v.name name ≡ false → variable_of (all ++ v ∷ []) name ≡ None
+none_after [] v name h e = passed_by v [] name e ∙ none_found name
+none_after (w ∷ all) v name h e = by (bytes_eq w.name name) refl (none_after all v name)
+  where
+    by : (b : Bool) → bytes_eq w.name name ≡ b → (variable_of all name ≡ None → bytes_eq v.name name ≡ false → variable_of (all ++ v ∷ []) name ≡ None) → variable_of ((w ∷ all) ++ v ∷ []) name ≡ None
+    by true is then_none = absurd (let some : Some (record { of_type = w.of_type; slot = w.slot }) ≡ None = sym (found_here w all name is) ∙ h in cc)
+    by false is then_none = passed_by w (all ++ v ∷ []) name is ∙ then_none (sym (passed_by w all name is) ∙ h) e
+
+-- A new variable makes no other name known.
+pub unknown_after : (all : List Local) (v : Local) (ps : List Param) → list_any (λ later. bytes_eq v.name later) (map (λ p. p.name) ps) ≡ false → Unknown all ps → Unknown (all ++ v ∷ []) ps
+unknown_after all v [] h k = tt
+unknown_after all v (p ∷ ps) h k =
+    let each = both_false (bytes_eq v.name p.name) _ h in
+    (none_after all v p.name k.0 each.0, unknown_after all v ps each.1 k.1)
+
+pub none_known : (ps : List Param) → Unknown [] ps
+none_known [] = tt
+none_known (p ∷ ps) = (none_found p.name, none_known ps)
+
+-- the parameter at a place
+pub known_at : (variables : List Local) (slot at : ℕ) (ps : List Param) → Known variables slot ps → at < length ps → variable_of variables (name_or_nothing (slice_get ps at)) ≡ Some (int_at (slot + at))
+known_at variables slot at [] k h = absurd (let none : at < 0 = h in omega arith)
+known_at variables slot zero (p ∷ ps) k h = k.0 ∙ ap (λ n. Some (int_at n)) (omega arith)
+known_at variables slot (suc at) (p ∷ ps) k h = known_at variables (slot + 1) at ps k.1 (omega arith) ∙ ap (λ n. Some (int_at n)) (omega arith)
+
+-- ---- functions
+
+-- Each of these names is found, at the places in their order.
+abbrev pub PlacedFrom : ℕ → List (List ℕ) → ℕ → List (List ℕ) → Type 0
+PlacedFrom first names at [] = Unit {0}
+PlacedFrom first names at (n ∷ ns) = (place_from first names n ≡ Some at) × PlacedFrom first names (at + 1) ns
+
+placed_behind : (first : ℕ) (name : List ℕ) (names : List (List ℕ)) (at : ℕ) (ns : List (List ℕ)) → list_any (λ later. bytes_eq name later) ns ≡ false → PlacedFrom (first + 1) names at ns → PlacedFrom first (name ∷ names) at ns
+placed_behind first name names at [] h k = tt
+placed_behind first name names at (n ∷ ns) h k =
+    let each = both_false (bytes_eq name n) _ h in
+    (ap (λ b. cond b (Some first) (place_from (first + 1) names n)) each.0 ∙ k.0, placed_behind first name names (at + 1) ns each.1 k.1)
+
+-- Names that differ are all found.
+pub all_placed : (first : ℕ) (ns : List (List ℕ)) → Differ ns → PlacedFrom first ns first ns
+all_placed first [] d = tt
+all_placed first (n ∷ ns) d =
+    (ap (λ b. cond b (Some first) (place_from (first + 1) ns n)) (same n), placed_behind first n ns (first + 1) ns d.0 (all_placed (first + 1) ns d.1))
+
+any_after : (name last : List ℕ) (ns : List (List ℕ)) → list_any (λ later. bytes_eq name later) ns ≡ false → bytes_eq name last ≡ false → list_any (λ later. bytes_eq name later) (ns ++ last ∷ []) ≡ false
+any_after name last [] h e = ap (λ b. b || false) e
+any_after name last (n ∷ ns) h e =
+    let each = both_false (bytes_eq name n) _ h in
+    ap (λ b. b || list_any (λ later. bytes_eq name later) (ns ++ last ∷ [])) each.0 ∙ any_after name last ns each.1 e
+
+-- A last name that is none of the others differs from them.
+pub differ_after : (ns : List (List ℕ)) (last : List ℕ) → Differ ns → All (λ n. bytes_eq n last ≡ false) ns → Differ (ns ++ last ∷ [])
+differ_after [] last d h = (refl, tt)
+differ_after (n ∷ ns) last d h = (any_after n last ns d.0 h.0, differ_after ns last d.1 h.1)

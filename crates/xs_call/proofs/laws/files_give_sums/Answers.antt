@@ -1,0 +1,5 @@
+use Rattle.xs_call.proofs.Join.{each_file}
+use Rattle.xs_call.proofs.laws.files_give_sums.Goals as goal
+
+pub returns : goal.returns
+returns c = each_file

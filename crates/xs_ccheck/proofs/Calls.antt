@@ -1,0 +1,41 @@
+-- Calls, rule by rule.
+use Rattle.std.proofs.Common.{◌≡◌, ℕ, suc, true, false, List, [], ◌∷◌, length, map, Result, Ok, Err, refl, ap}
+use Rattle.std.specs.Str.{bytes_eq}
+use Rattle.xs_base.specs.declared.fault.Fault.{Fault}
+use Rattle.xs_base.specs.declared.fault.Refuse.{Refuse}
+use Rattle.xs_base.specs.declared.fault.Refuse.TheVariants as refuse
+use Rattle.xs_base.specs.Reading.{Fails}
+use Rattle.xs_csyn.specs.declared.tree.Expr.{Expr}
+use Rattle.xs_csyn.specs.Tree.{ExprTrees, Call, exprs_of}
+use Rattle.xs_csyn.specs.View.{plain}
+use Rattle.xs_ccheck.specs.declared.resolve_exprs.TypedNode.{TypedNode}
+use Rattle.xs_ccheck.specs.declared.resolve_names.Local.{Local}
+use Rattle.xs_ccheck.specs.declared.resolve_nodes.Nodes.{Nodes}
+use Rattle.xs_ccheck.specs.Growth.{Keeps}
+use Rattle.xs_ccheck.specs.Resolving.{GivesExpr}
+use Rattle.xs_ccheck.specs.Typing.{Typed_tree, Operands, expr, exprs, usage, usage_word, called, wanted, row_named, expr_count}
+use Rattle.xs_ccheck.proofs.Kept.{keeps_on}
+
+pub call_usage : (locals : List Local) (line : ℕ) (name : List ℕ) (args : ExprTrees) → bytes_eq name usage_word ≡ true → expr locals (Call line name args) ≡ usage line args
+unfolding expr
+call_usage locals line name args h = rw h refl
+
+pub call_done : (locals : List Local) (line : ℕ) (name : List ℕ) (args : ExprTrees) (xs : Operands) → bytes_eq name usage_word ≡ false → exprs locals (wanted (row_named name)) args ≡ Ok xs → expr locals (Call line name args) ≡ called line name (expr_count args) (row_named name) xs
+unfolding expr
+call_done locals line name args xs h k = rw (h, k) refl
+
+call_refused : (locals : List Local) (line : ℕ) (name : List ℕ) (args : ExprTrees) (f : Fault) → bytes_eq name usage_word ≡ false → exprs locals (wanted (row_named name)) args ≡ Err f → expr locals (Call line name args) ≡ Err f
+unfolding expr
+call_refused locals line name args f h k = rw (h, k) refl
+
+pub call_fails : (locals : List Local) (line : ℕ) (name : List ℕ) (args : ExprTrees) (e : Refuse) → bytes_eq name usage_word ≡ false → Fails e (exprs locals (wanted (row_named name)) args) → Fails e (expr locals (Call line name args))
+call_fails locals line name args refuse.Memory h k = tt
+call_fails locals line name args (refuse.Fault f) h k = call_refused locals line name args f h k
+
+pub count_is : (args : List Expr) → expr_count (exprs_of (map plain args)) ≡ length args
+count_is [] = refl
+count_is (a ∷ all) = ap suc (count_is all)
+
+pub on_from : (r : Result TypedNode Refuse) (a b c : Nodes) (read : Result Typed_tree Fault) → Keeps a b → GivesExpr r b c read → GivesExpr r a c read
+on_from (Ok x) a b c read k h = record { means = h.means; below = h.below; keeps = keeps_on a b c k h.keeps }
+on_from (Err e) a b c read k h = h

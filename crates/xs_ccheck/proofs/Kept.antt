@@ -1,0 +1,51 @@
+-- What was there is kept.
+use Rattle.std.proofs.Common.{◌≡◌, ℕ, true, List, [], ◌∷◌, ◌++◌, length, map, refl, sym, ap, ◌∙◌, subst, arith}
+use Rattle.std.proofs.Math.ListN.{length-append}
+use Rattle.xs_ccheck.specs.declared.code.Node.{Node}
+use Rattle.xs_ccheck.specs.declared.resolve_nodes.Nodes.{Nodes}
+use Rattle.xs_ccheck.specs.Arena.{is_before, InOrder, tree_at, trees_at, function_of}
+use Rattle.xs_ccheck.specs.Growth.{Keeps, Added}
+use Rattle.xs_ccheck.proofs.Growing.{append_none, tree_grows, trees_grow, functions_same, tree_added, trees_added}
+
+pub keeps_all : (b : Nodes) → Keeps b b
+keeps_all b = record { tree = λ i h. refl; trees = λ i h. refl; functions = refl; longer = omega arith }
+
+pub keeps_on : (a b c : Nodes) → Keeps a b → Keeps b c → Keeps a c
+keeps_on a b c h k =
+    record {
+      tree = λ i lt. k.tree i (omega (arith, lt, h.longer)) ∙ h.tree i lt;
+      trees = λ i lt. k.trees i (omega (arith, lt, h.longer)) ∙ h.trees i lt;
+      functions = k.functions ∙ h.functions;
+      longer = omega (arith, h.longer, k.longer);
+    }
+
+pub kept_by_text : (old new : Nodes) (text : List ℕ) → new.nodes.items ≡ old.nodes.items → new.functions.items ≡ old.functions.items → new.texts.items ≡ old.texts.items ++ text ∷ [] → Keeps old new
+kept_by_text old new text en ef et =
+    let texts = old.texts.items in
+    let nodes = old.nodes.items in
+    let at : new.nodes.items ≡ nodes ++ [] = en ∙ sym (append_none nodes) in
+    let has = old.has_texts in
+    record {
+      tree = λ i lt. ap (λ ns. tree_at new.texts.items ns i) at ∙ ap (λ ts. tree_at ts (nodes ++ []) i) et ∙ tree_grows texts (text ∷ []) nodes [] old.in_order has i lt;
+      trees = λ i lt. ap (λ ns. trees_at new.texts.items ns i) at ∙ ap (λ ts. trees_at ts (nodes ++ []) i) et ∙ trees_grow texts (text ∷ []) nodes [] old.in_order has i lt;
+      functions = ap (λ fs. map (function_of new.texts.items new.nodes.items) fs) ef ∙ ap (λ ns. map (function_of new.texts.items ns) old.functions.items) at ∙ ap (λ ts. map (function_of ts (nodes ++ [])) old.functions.items) et ∙ functions_same texts (text ∷ []) nodes [] old.in_order has old.functions.items old.has_bodies;
+      longer = omega (arith, ap length en);
+    }
+
+pub added : (old new : Nodes) (n : Node) (at : ℕ) → at ≡ length old.nodes.items → is_before (length old.nodes.items) n ≡ true → new.nodes.items ≡ old.nodes.items ++ n ∷ [] → new.functions.items ≡ old.functions.items → new.texts.items ≡ old.texts.items → Added old n at new
+added old new n at ea b en ef et =
+    let texts = old.texts.items in
+    let nodes = old.nodes.items in
+    let same : new.texts.items ≡ texts ++ [] = et ∙ sym (append_none texts) in
+    let ord1 : InOrder (nodes ++ n ∷ []) = subst InOrder en new.in_order in
+    record {
+      keeps = record {
+        tree = λ i lt. ap (λ ns. tree_at new.texts.items ns i) en ∙ ap (λ ts. tree_at ts (nodes ++ n ∷ []) i) same ∙ tree_grows texts [] nodes (n ∷ []) old.in_order old.has_texts i lt;
+        trees = λ i lt. ap (λ ns. trees_at new.texts.items ns i) en ∙ ap (λ ts. trees_at ts (nodes ++ n ∷ []) i) same ∙ trees_grow texts [] nodes (n ∷ []) old.in_order old.has_texts i lt;
+        functions = ap (λ fs. map (function_of new.texts.items new.nodes.items) fs) ef ∙ ap (λ ns. map (function_of new.texts.items ns) old.functions.items) en ∙ ap (λ ts. map (function_of ts (nodes ++ n ∷ [])) old.functions.items) same ∙ functions_same texts [] nodes (n ∷ []) old.in_order old.has_texts old.functions.items old.has_bodies;
+        longer = omega (arith, ap length en, length-append nodes (n ∷ []));
+      };
+      below = omega (arith, ea, ap length en, length-append nodes (n ∷ []));
+      tree = ap (λ i. tree_at new.texts.items new.nodes.items i) ea ∙ ap (λ ns. tree_at new.texts.items ns (length nodes)) en ∙ ap (λ ts. tree_at ts (nodes ++ n ∷ []) (length nodes)) et ∙ tree_added texts nodes n old.in_order old.has_texts b ord1;
+      trees = ap (λ i. trees_at new.texts.items new.nodes.items i) ea ∙ ap (λ ns. trees_at new.texts.items ns (length nodes)) en ∙ ap (λ ts. trees_at ts (nodes ++ n ∷ []) (length nodes)) et ∙ trees_added texts nodes n old.in_order old.has_texts b ord1;
+    }

@@ -1,0 +1,9 @@
+pub mod Forest
+pub mod Callees
+pub mod Unlined
+pub mod Growing
+pub mod Kept
+pub mod ExprSizes
+pub mod Calls
+pub mod StmtSizes
+pub mod Stmts

@@ -1,0 +1,9 @@
+pub mod Tree
+pub mod Arena
+pub mod Functions
+pub mod Placed
+pub mod Growth
+pub mod Typing
+pub mod Resolving
+pub mod ResolvingStmts
+pub mod Law

@@ -1,0 +1,43 @@
+-- What nodes and functions name is there.
+use Rattle.std.specs.Prelude.{◌≡◌, ℕ, ◌<◌, Bool, true, nat_lt, List, length, Some, slice_get}
+use Rattle.xs_ccheck.specs.declared.code.FunctionNode.{FunctionNode}
+use Rattle.xs_ccheck.specs.declared.code.Node.{Node}
+use Rattle.xs_ccheck.specs.declared.code.Node.TheVariants as node
+use Rattle.xs_ccheck.specs.declared.code.RowNode.{RowNode}
+use Rattle.xs_ccheck.specs.declared.code.RowNode.TheVariants as row
+
+-- whether the text that a row names is among so many
+abbrev pub row_has_text : ℕ → RowNode → Bool
+row_has_text count row.Entry = true
+row_has_text count row.StRead = true
+row_has_text count row.SvIv = true
+row_has_text count row.SvNewMortal = true
+row_has_text count row.SvSetIv = true
+row_has_text count row.StSet = true
+row_has_text count row.XsReturn = true
+row_has_text count row.XsReturnYes = true
+row_has_text count (row.CroakUsage t) = nat_lt t count
+row_has_text count (row.NewXs t f) = nat_lt t count
+
+abbrev pub has_text : ℕ → Node → Bool
+has_text count (node.Literal n) = true
+has_text count (node.Variable x) = true
+has_text count node.ItemCount = true
+has_text count (node.Assign x t e) = true
+has_text count (node.Binary op a b) = true
+has_text count (node.Convert k e) = true
+has_text count (node.ApiRow r xs) = row_has_text count r
+has_text count (node.Block ts) = true
+has_text count (node.If e a b) = true
+has_text count (node.Forget e) = true
+has_text count (node.Declare x) = true
+has_text count node.NoTrees = true
+has_text count (node.MoreTrees t ts) = true
+
+-- the texts that nodes name are there
+pub record HasTexts (texts : List (List ℕ)) (nodes : List Node) : Type 0 where
+  pub each : (i : ℕ) (n : Node) → slice_get nodes i ≡ Some n → has_text (length texts) n ≡ true
+
+-- the bodies of functions are there
+pub record HasBodies (nodes : List Node) (functions : List FunctionNode) : Type 0 where
+  pub each : (i : ℕ) (f : FunctionNode) → slice_get functions i ≡ Some f → f.body < length nodes

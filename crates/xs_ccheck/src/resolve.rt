@@ -1,0 +1,147 @@
+//! The types stage: a C file becomes code whose names are resolved and whose types are checked.
+ghost use Rattle.std.specs.List.{starts_with};
+ghost use Rattle.std.specs.Prelude.{◌≡◌, ◌<◌, ◌↔◌, IsTrue, map, []};
+ghost use Rattle.xs_base.specs.Reading.{GivesBy};
+ghost use Rattle.xs_base.specs.declared.fault.Refuse.TheVariants as refuse;
+ghost use Rattle.xs_csyn.specs.View.{file_tree, function_tree, item_tree};
+ghost use Rattle.xs_ccheck.specs.Functions.{code_of};
+ghost use Rattle.xs_ccheck.specs.Growth.{functions_in};
+ghost use Rattle.xs_ccheck.specs.ResolvingStmts.{GivesFunction, GivesFunctions, GivesNodes, names_in};
+ghost use Rattle.xs_ccheck.specs.Typing as spec;
+
+use crate::Typed;
+use crate::code::{FunctionNode, Node};
+use crate::resolve_names::{Scope, fault};
+use crate::resolve_nodes::Nodes;
+use crate::resolve_stmts::{place_of, stmts};
+use std::alloc::Global;
+use xs_base::{Bytes, Refuse};
+use xs_csyn::{CFile, FileItem, XsFun};
+
+// Whether a function of this name is the boot function.
+#[tactic(auto, unfolding(crate::specs::Typing::is_boot_name))]
+fn is_boot_name(name: &[u8]) -> bool
+    ensures { result ≡ spec.is_boot_name name.now }
+{
+    name.starts_with(b"boot_")
+}
+
+// Whether a place is there and before another.
+fn is_earlier(place: Option<usize>, at: usize) -> bool
+    ensures { result ≡ spec.is_earlier place at }
+{
+    match place {
+        None => false,
+        Some(place) => place < at,
+    }
+}
+
+fn named_anew(line: u32, name: Bytes) -> Refuse
+    ensures { result ≡ refuse.Fault (spec.declared_twice line name) }
+{
+    Refuse::Fault(fault(line, 804, name))
+}
+
+// The function at a place among the file's functions.
+#[tactic(auto, unfolding(crate::specs::Typing::function))]
+fn function(
+    alloc: Global,
+    nodes: &mut Nodes,
+    items: &[FileItem],
+    at: usize,
+    f: &XsFun,
+) -> Result<(), Refuse>
+    ensures { GivesFunction result nodes.old nodes.new (spec.function (names_in items.now) at (function_tree f.now)) }
+{
+    let name = f.name.copy(alloc)?;
+    let is_boot = is_boot_name(f.name.as_slice());
+    let mut scope = Scope::new(alloc, is_boot);
+    let statements = stmts(alloc, nodes, &mut scope, items, f.body.as_slice())?;
+    let body = nodes.add(Node::Block(statements))?;
+    if is_earlier(place_of(items, f.name.as_slice()), at) {
+        return Err(named_anew(f.line, name));
+    }
+    let slots = scope.slots();
+    nodes.add_function(FunctionNode {
+        name,
+        is_boot,
+        slots,
+        body,
+    })?;
+    Ok(())
+}
+
+fn item(
+    alloc: Global,
+    nodes: &mut Nodes,
+    items: &[FileItem],
+    at: usize,
+    item: &FileItem,
+) -> Result<(), Refuse>
+    ensures { GivesFunction result nodes.old nodes.new (spec.item (names_in items.now) at (item_tree item.now)) }
+{
+    match item {
+        FileItem::XsFun(f) => function(alloc, nodes, items, at, f),
+    }
+}
+
+fn functions(alloc: Global, nodes: &mut Nodes, items: &[FileItem]) -> Result<(), Refuse>
+    requires { functions_in nodes.old ≡ [] }
+    ensures { GivesFunctions result nodes.new (spec.functions (names_in items.now) 0 [] (map item_tree items.now)) }
+{
+    for (at, here) in items.iter().enumerate() {
+        item(alloc, nodes, items, at, here)?;
+    }
+    Ok(())
+}
+
+fn resolved(alloc: Global, items: &[FileItem]) -> Result<Nodes, Refuse>
+    ensures { GivesNodes result (spec.functions (names_in items.now) 0 [] (map item_tree items.now)) }
+{
+    let mut nodes = Nodes {
+        nodes: Vec::new(alloc),
+        texts: Vec::new(alloc),
+        functions: Vec::new(alloc),
+    };
+    functions(alloc, &mut nodes, items)?;
+    Ok(nodes)
+}
+
+fn finished(nodes: Nodes) -> Typed
+    ensures { code_of result ≡ record { functions = functions_in nodes } }
+{
+    let Nodes {
+        nodes,
+        texts,
+        functions,
+    } = nodes;
+    Typed {
+        nodes,
+        texts,
+        functions,
+    }
+}
+
+/// Resolves the names of a C file and checks its types. The faults are of the text: 801 unknown name, 802 unknown function,
+/// 803 types differ, 804 declared twice, 805 wrong number of arguments, 806 not assignable, 807 word not allowed here. The
+/// first fault in the order of the text is told, and a node's own fault behind those of its parts.
+#[tactic(auto, unfolding(crate::specs::Typing::typed_of))]
+pub fn check_file(alloc: Global, f: CFile) -> Result<Typed, Refuse>
+    ensures { GivesBy code_of result (spec.typed_of (file_tree f)) }
+{
+    let nodes = resolved(alloc, f.items.as_slice())?;
+    Ok(finished(nodes))
+}
+
+/// Whether a file has exactly one boot function.
+pub fn has_one_boot(typed: &Typed) -> bool
+    ensures { IsTrue result ↔ (spec.boot_count (code_of typed.now).functions ≡ 1) }
+{
+    let mut count = 0usize;
+    for f in &typed.functions {
+        if f.is_boot {
+            count += 1;
+        }
+    }
+    count == 1
+}

@@ -1,0 +1,516 @@
+//! Expressions are resolved: names become slots, and types are checked.
+ghost use Rattle.std.specs.Prelude.{◌≡◌, ◌<◌, ◌&&◌, IfSome, Ok, length, map, option_map, true, false, [], Some};
+ghost use Rattle.xs_base.specs.Reading.{Fails};
+ghost use Rattle.xs_csyn.specs.Tree.{exprs_of};
+ghost use Rattle.xs_csyn.specs.View.{plain, plain_place};
+ghost use Rattle.xs_ccheck.specs.Arena.{is_before, row_of, tree_from};
+ghost use Rattle.xs_ccheck.specs.Growth.{trees_in, tree_in};
+ghost use Rattle.xs_ccheck.specs.declared.resolve_nodes.Nodes.{Nodes};
+ghost use Rattle.xs_ccheck.specs.Placed.{has_text, row_has_text};
+ghost use Rattle.xs_ccheck.specs.Resolving.{GivesExpr, GivesOperands, GivesTarget, IsThere, target_in};
+ghost use Rattle.std.specs.Option.{option_copied};
+ghost use Rattle.std.specs.Prelude.{cond, Err};
+ghost use Rattle.xs_ccheck.specs.declared.code.ValueType.TheVariants as type_of;
+ghost use Rattle.xs_ccheck.specs.Tree.{ApiRow, CroakUsage, MoreTrees, NoTrees};
+ghost use Rattle.xs_ccheck.specs.Typing as spec;
+ghost use Rattle.xs_ccheck.specs.Typing.{Typed_tree};
+
+use crate::code::{Node, RowNode, ValueType};
+use crate::resolve_names::{
+    Found, Local, OperandSort, fault, goes_into, is, is_number, is_scalar, is_sort, row_named,
+    sorts_of, type_given, type_named, types_differ, unknown, variable_of,
+};
+use crate::resolve_nodes::Nodes;
+use std::alloc::Global;
+use xs_base::{Bytes, Refuse};
+use xs_csyn::{BinaryOp, Expr, Place};
+use xs_values::{Kind, Op, common, wrap};
+
+/// The node of an expression, with its type.
+#[derive(Clone, Copy, Debug)]
+pub struct TypedNode {
+    pub node: u32,
+    pub of_type: ValueType,
+}
+
+/// The node of a list of operands, and whether each is of the sort that is wanted.
+#[derive(Clone, Copy, Debug)]
+pub struct OperandNodes {
+    pub nodes: u32,
+    pub fit: bool,
+}
+
+/// What is assigned to: a variable by its slot and type, or a place of the argument list.
+#[derive(Clone, Copy, Debug)]
+pub enum TargetNode {
+    Variable(u32, ValueType),
+    Item(u32),
+}
+
+// ---- single nodes
+
+// A node whose parts are there, as an expression.
+fn typed(nodes: &mut Nodes, node: Node, of_type: ValueType) -> Result<TypedNode, Refuse>
+    requires before { is_before (length nodes.old.nodes.items) node ≡ true }
+    requires texts { has_text (length nodes.old.texts.items) node ≡ true }
+    ensures { GivesExpr result nodes.old nodes.new (spec.typed (tree_from nodes.old.texts.items (Some node) (tree_in nodes.old) (trees_in nodes.old)) of_type) }
+{
+    let node = nodes.add(node)?;
+    Ok(TypedNode { node, of_type })
+}
+
+fn literal_kind(value: u64) -> Kind
+    ensures { result ≡ spec.literal_kind value }
+{
+    if value < 2147483648 {
+        Kind::I32
+    } else if value < 9223372036854775808 {
+        Kind::I64
+    } else {
+        Kind::U64
+    }
+}
+
+fn literal(nodes: &mut Nodes, value: u64) -> Result<TypedNode, Refuse>
+    ensures { GivesExpr result nodes.old nodes.new (spec.literal value) }
+{
+    let kind = literal_kind(value);
+    let number = wrap(kind, i128::from(value));
+    typed(nodes, Node::Literal(number), ValueType::Number(kind))
+}
+
+// A name that is no variable.
+fn other_name(alloc: Global, nodes: &mut Nodes, line: u32, name: &[u8]) -> Result<TypedNode, Refuse>
+    ensures { GivesExpr result nodes.old nodes.new (spec.other_name line name.now) }
+{
+    if is(name, b"items") {
+        return typed(nodes, Node::ItemCount, ValueType::Number(Kind::I32));
+    }
+    let fault = unknown(alloc, 801, line, name)?;
+    Err(Refuse::Fault(fault))
+}
+
+fn use_of(
+    alloc: Global,
+    nodes: &mut Nodes,
+    line: u32,
+    name: &[u8],
+    found: Option<Found>,
+) -> Result<TypedNode, Refuse>
+    ensures { GivesExpr result nodes.old nodes.new (spec.use_of line name.now found) }
+{
+    match found {
+        None => other_name(alloc, nodes, line, name),
+        Some(v) => typed(nodes, Node::Variable(v.slot), v.of_type),
+    }
+}
+
+// ---- operators and casts
+
+fn operator_of(op: BinaryOp) -> Op
+    ensures { result ≡ spec.operator_of op }
+{
+    match op {
+        BinaryOp::Add => Op::Add,
+        BinaryOp::NotEqual => Op::NotEqual,
+    }
+}
+
+fn operated_kind(op: BinaryOp, a: Kind, b: Kind) -> Kind
+    ensures { result ≡ spec.operated_kind op a b }
+{
+    match op {
+        BinaryOp::Add => common(a, b),
+        BinaryOp::NotEqual => Kind::I32,
+    }
+}
+
+fn operated_type(op: BinaryOp, a: ValueType, b: ValueType) -> Option<ValueType>
+    ensures { result ≡ spec.operated_type op a b }
+{
+    let ValueType::Number(a) = a else {
+        return None;
+    };
+    let ValueType::Number(b) = b else {
+        return None;
+    };
+    Some(ValueType::Number(operated_kind(op, a, b)))
+}
+
+fn operated(
+    alloc: Global,
+    nodes: &mut Nodes,
+    line: u32,
+    op: BinaryOp,
+    a: TypedNode,
+    b: TypedNode,
+) -> Result<TypedNode, Refuse>
+    requires a_in { a.node < length nodes.old.nodes.items }
+    requires b_in { b.node < length nodes.old.nodes.items }
+    ensures { GivesExpr result nodes.old nodes.new (spec.operated_as line op (tree_in nodes.old a.node) (tree_in nodes.old b.node) (spec.operated_type op a.of_type b.of_type)) }
+{
+    match operated_type(op, a.of_type, b.of_type) {
+        None => Err(types_differ(alloc, line)),
+        Some(t) => typed(nodes, Node::Binary(operator_of(op), a.node, b.node), t),
+    }
+}
+
+fn cast_from(
+    alloc: Global,
+    nodes: &mut Nodes,
+    line: u32,
+    to: Option<ValueType>,
+    e: TypedNode,
+) -> Result<TypedNode, Refuse>
+    requires { e.node < length nodes.old.nodes.items }
+    ensures { GivesExpr result nodes.old nodes.new (spec.cast_from line to (record { tree = tree_in nodes.old e.node; of_type = e.of_type })) }
+{
+    match to {
+        Some(ValueType::Number(kind)) if is_number(e.of_type) => typed(
+            nodes,
+            Node::Convert(kind, e.node),
+            ValueType::Number(kind),
+        ),
+        Some(ValueType::Scalar) if is_scalar(e.of_type) => Ok(e),
+        _ => Err(types_differ(alloc, line)),
+    }
+}
+
+// ---- assignments
+
+fn target(alloc: Global, line: u32, name: &[u8], found: Option<Found>) -> Result<TargetNode, Refuse>
+    ensures { (b : Nodes) → GivesTarget result b b (spec.target line name.now found) }
+{
+    if let Some(v) = found {
+        return Ok(TargetNode::Variable(v.slot, v.of_type));
+    }
+    if is(name, b"items") {
+        return Err(Refuse::Fault(fault(line, 806, Bytes::new(alloc))));
+    }
+    let fault = unknown(alloc, 801, line, name)?;
+    Err(Refuse::Fault(fault))
+}
+
+fn put(
+    alloc: Global,
+    nodes: &mut Nodes,
+    line: u32,
+    to: TargetNode,
+    e: TypedNode,
+) -> Result<TypedNode, Refuse>
+    requires to_in { IsThere nodes.old to }
+    requires e_in { e.node < length nodes.old.nodes.items }
+    ensures { GivesExpr result nodes.old nodes.new (spec.put line (target_in nodes.old to) (record { tree = tree_in nodes.old e.node; of_type = e.of_type })) }
+{
+    match to {
+        TargetNode::Variable(slot, t) => {
+            if goes_into(e.of_type, t) {
+                typed(nodes, Node::Assign(slot, t, e.node), t)
+            } else {
+                Err(types_differ(alloc, line))
+            }
+        }
+        TargetNode::Item(at) => {
+            if is_scalar(e.of_type) {
+                store(nodes, at, e.node)
+            } else {
+                Err(types_differ(alloc, line))
+            }
+        }
+    }
+}
+
+// `ST(at) = e`: the value is the first operand.
+fn store(nodes: &mut Nodes, at: u32, e: u32) -> Result<TypedNode, Refuse>
+    requires at_in { at < length nodes.old.nodes.items }
+    requires e_in { e < length nodes.old.nodes.items }
+    ensures { GivesExpr result nodes.old nodes.new (spec.stored (tree_in nodes.old at) (tree_in nodes.old e)) }
+{
+    let none = nodes.add(Node::NoTrees)?;
+    let place = nodes.add(Node::MoreTrees(at, none))?;
+    let both = nodes.add(Node::MoreTrees(e, place))?;
+    typed(nodes, Node::ApiRow(RowNode::StSet, both), ValueType::Scalar)
+}
+
+fn item_place(alloc: Global, line: u32, e: TypedNode) -> Result<TargetNode, Refuse>
+    ensures { (b : Nodes) → e.node < length b.nodes.items → GivesTarget result b b (spec.item_place line (record { tree = tree_in b e.node; of_type = e.of_type })) }
+{
+    if is_number(e.of_type) {
+        Ok(TargetNode::Item(e.node))
+    } else {
+        Err(types_differ(alloc, line))
+    }
+}
+
+// ---- calls
+
+fn wanted(row: Option<RowNode>) -> &'static [OperandSort]
+    ensures { result.now ≡ spec.wanted (option_map (row_of []) row) }
+{
+    match row {
+        None => &[],
+        Some(row) => sorts_of(row),
+    }
+}
+
+fn others(sorts: &[OperandSort]) -> &[OperandSort]
+    ensures { result.now ≡ spec.others sorts.now }
+{
+    match sorts.split_first() {
+        None => sorts,
+        Some((_, others)) => others,
+    }
+}
+
+fn first_fits(sorts: &[OperandSort], t: ValueType) -> bool
+    ensures { result ≡ spec.first_fits sorts.now t }
+{
+    match sorts.first() {
+        None => true,
+        Some(sort) => is_sort(*sort, t),
+    }
+}
+
+fn no_operands(nodes: &mut Nodes) -> Result<OperandNodes, Refuse>
+    ensures { GivesOperands result nodes.old nodes.new (Ok (record { trees = NoTrees; fit = true })) }
+{
+    let nodes = nodes.add(Node::NoTrees)?;
+    Ok(OperandNodes { nodes, fit: true })
+}
+
+fn more_operands(
+    nodes: &mut Nodes,
+    first: u32,
+    others: u32,
+    fit: bool,
+) -> Result<OperandNodes, Refuse>
+    requires first_in { first < length nodes.old.nodes.items }
+    requires others_in { others < length nodes.old.nodes.items }
+    ensures { GivesOperands result nodes.old nodes.new (Ok (record { trees = MoreTrees (tree_in nodes.old first) (trees_in nodes.old others); fit = fit })) }
+{
+    let nodes = nodes.add(Node::MoreTrees(first, others))?;
+    Ok(OperandNodes { nodes, fit })
+}
+
+fn called_row(
+    alloc: Global,
+    nodes: &mut Nodes,
+    line: u32,
+    row: RowNode,
+    xs: OperandNodes,
+) -> Result<TypedNode, Refuse>
+    requires bare { row_has_text 0 row ≡ true }
+    requires xs_in { xs.nodes < length nodes.old.nodes.items }
+    ensures { GivesExpr result nodes.old nodes.new (cond xs.fit (spec.typed (ApiRow (row_of [] row) (trees_in nodes.old xs.nodes)) (spec.type_given (row_of [] row))) (Err (spec.types_differ line))) }
+{
+    if xs.fit {
+        typed(nodes, Node::ApiRow(row, xs.nodes), type_given(row))
+    } else {
+        Err(types_differ(alloc, line))
+    }
+}
+
+fn wrong_count(alloc: Global, line: u32, name: &[u8]) -> Refuse
+    ensures { Fails {A = Typed_tree} result (Err (spec.fault line 805 name.now)) }
+{
+    match Bytes::from_slice(alloc, name) {
+        Ok(name) => Refuse::Fault(fault(line, 805, name)),
+        Err(_) => Refuse::Memory,
+    }
+}
+
+fn called(
+    alloc: Global,
+    nodes: &mut Nodes,
+    line: u32,
+    name: &[u8],
+    count: usize,
+    row: Option<RowNode>,
+    xs: OperandNodes,
+) -> Result<TypedNode, Refuse>
+    requires bare { IfSome row (λ r. row_has_text 0 r ≡ true) }
+    requires xs_in { xs.nodes < length nodes.old.nodes.items }
+    ensures { GivesExpr result nodes.old nodes.new (spec.called line name.now count (option_map (row_of []) row) (record { trees = trees_in nodes.old xs.nodes; fit = xs.fit })) }
+{
+    match row {
+        None => {
+            let fault = unknown(alloc, 802, line, name)?;
+            Err(Refuse::Fault(fault))
+        }
+        Some(row) => {
+            if count == sorts_of(row).len() {
+                called_row(alloc, nodes, line, row, xs)
+            } else {
+                Err(wrong_count(alloc, line, name))
+            }
+        }
+    }
+}
+
+// ---- the usage croak
+
+#[tactic(auto, using(xs_csyn::proofs::Views::views))]
+fn is_cv(e: &Expr) -> bool
+    ensures { result ≡ spec.is_cv (plain e.now) }
+{
+    match e {
+        Expr::Name(_, name) => is(name.as_slice(), b"cv"),
+        Expr::Int(_, _)
+        | Expr::Text(_, _)
+        | Expr::Call(_, _, _)
+        | Expr::Assign(_, _, _)
+        | Expr::Binary(_, _, _, _)
+        | Expr::Cast(_, _, _) => false,
+    }
+}
+
+// A literal text.
+#[tactic(auto, using(xs_csyn::proofs::Views::views))]
+fn text_in(e: &Expr) -> Option<&Bytes>
+    ensures { option_copied result ≡ spec.text_in (plain e.now) }
+{
+    match e {
+        Expr::Text(_, text) => Some(text),
+        Expr::Int(_, _)
+        | Expr::Name(_, _)
+        | Expr::Call(_, _, _)
+        | Expr::Assign(_, _, _)
+        | Expr::Binary(_, _, _, _)
+        | Expr::Cast(_, _, _) => None,
+    }
+}
+
+// The croak for wrong use, with the text of the parameters.
+fn croak_usage(alloc: Global, nodes: &mut Nodes, text: &Bytes) -> Result<TypedNode, Refuse>
+    ensures { GivesExpr result nodes.old nodes.new (spec.typed (ApiRow (CroakUsage text.now) NoTrees) type_of.Void) }
+{
+    let text = text.copy(alloc)?;
+    let none = nodes.add(Node::NoTrees)?;
+    let text = nodes.add_text(text)?;
+    typed(
+        nodes,
+        Node::ApiRow(RowNode::CroakUsage(text), none),
+        ValueType::Void,
+    )
+}
+
+fn usage_of(
+    alloc: Global,
+    nodes: &mut Nodes,
+    line: u32,
+    is_cv: bool,
+    text: Option<&Bytes>,
+) -> Result<TypedNode, Refuse>
+    ensures { GivesExpr result nodes.old nodes.new (spec.usage_of line is_cv (option_copied text.entry)) }
+{
+    match text {
+        Some(text) if is_cv => croak_usage(alloc, nodes, text),
+        _ => Err(types_differ(alloc, line)),
+    }
+}
+
+fn usage(alloc: Global, nodes: &mut Nodes, line: u32, args: &[Expr]) -> Result<TypedNode, Refuse>
+    ensures { GivesExpr result nodes.old nodes.new (spec.usage line (exprs_of (map plain args.now))) }
+{
+    let Some((first, rest)) = args.split_first() else {
+        return Err(wrong_count(alloc, line, b"croak_xs_usage"));
+    };
+    let Some((second, more)) = rest.split_first() else {
+        return Err(wrong_count(alloc, line, b"croak_xs_usage"));
+    };
+    if more.split_first().is_some() {
+        return Err(wrong_count(alloc, line, b"croak_xs_usage"));
+    }
+    usage_of(alloc, nodes, line, is_cv(first), text_in(second))
+}
+
+// ---- any expression
+
+#[cycle(expr)]
+#[tactic(auto, using(xs_csyn::proofs::Views::views), unfolding(crate::specs::Typing::expr))]
+pub(crate) fn expr(
+    alloc: Global,
+    nodes: &mut Nodes,
+    locals: &[Local],
+    e: &Expr,
+) -> Result<TypedNode, Refuse>
+    ensures { GivesExpr result nodes.old nodes.new (spec.expr locals.now (plain e.now)) }
+{
+    match e {
+        Expr::Name(line, name) => use_of(
+            alloc,
+            nodes,
+            *line,
+            name.as_slice(),
+            variable_of(locals, name.as_slice()),
+        ),
+        Expr::Int(_, value) => literal(nodes, *value),
+        Expr::Text(line, _) => Err(types_differ(alloc, *line)),
+        Expr::Call(line, name, args) => {
+            if is(name.as_slice(), b"croak_xs_usage") {
+                return usage(alloc, nodes, *line, args.as_slice());
+            }
+            let row = row_named(name.as_slice());
+            let xs = exprs(alloc, nodes, locals, wanted(row), args.as_slice())?;
+            called(alloc, nodes, *line, name.as_slice(), args.len(), row, xs)
+        }
+        Expr::Assign(line, place, value) => {
+            let to = place_in(alloc, nodes, locals, place)?;
+            let x = expr(alloc, nodes, locals, value)?;
+            put(alloc, nodes, *line, to, x)
+        }
+        Expr::Binary(line, op, a, b) => {
+            let x = expr(alloc, nodes, locals, a)?;
+            let y = expr(alloc, nodes, locals, b)?;
+            operated(alloc, nodes, *line, *op, x, y)
+        }
+        Expr::Cast(line, to, a) => {
+            let x = expr(alloc, nodes, locals, a)?;
+            cast_from(alloc, nodes, *line, type_named(to), x)
+        }
+    }
+}
+
+#[cycle(expr)]
+#[tactic(auto, using(xs_csyn::proofs::Views::views), unfolding(crate::specs::Typing::expr))]
+fn exprs(
+    alloc: Global,
+    nodes: &mut Nodes,
+    locals: &[Local],
+    sorts: &[OperandSort],
+    args: &[Expr],
+) -> Result<OperandNodes, Refuse>
+    ensures { GivesOperands result nodes.old nodes.new (spec.exprs locals.now sorts.now (exprs_of (map plain args.now))) }
+{
+    let Some((first, rest)) = args.split_first() else {
+        return no_operands(nodes);
+    };
+    let x = expr(alloc, nodes, locals, first)?;
+    let xs = exprs(alloc, nodes, locals, others(sorts), rest)?;
+    let fit = first_fits(sorts, x.of_type) && xs.fit;
+    more_operands(nodes, x.node, xs.nodes, fit)
+}
+
+#[cycle(expr)]
+#[tactic(auto, using(xs_csyn::proofs::Views::views), unfolding(crate::specs::Typing::expr))]
+fn place_in(
+    alloc: Global,
+    nodes: &mut Nodes,
+    locals: &[Local],
+    place: &Place,
+) -> Result<TargetNode, Refuse>
+    ensures { GivesTarget result nodes.old nodes.new (spec.place_in locals.now (plain_place place.now)) }
+{
+    match place {
+        Place::Variable(line, name) => target(
+            alloc,
+            *line,
+            name.as_slice(),
+            variable_of(locals, name.as_slice()),
+        ),
+        Place::St(line, at) => {
+            let i = expr(alloc, nodes, locals, at)?;
+            item_place(alloc, *line, i)
+        }
+    }
+}

@@ -1,0 +1,364 @@
+//! Names, types and the variables that are in scope.
+ghost use Rattle.std.specs.Prelude.{◌≡◌, take, false, IfOk, IfSome, None, Some, [], map, option_map, true, ◌&&◌, nat_eq};
+ghost use Rattle.std.specs.Str.{bytes_eq};
+ghost use Rattle.xs_ccheck.specs.Arena.{row_of};
+ghost use Rattle.xs_base.specs.declared.fault.Refuse.TheVariants as refuse;
+ghost use Rattle.xs_ccheck.specs.Placed.{row_has_text};
+ghost use Rattle.xs_ccheck.specs.Typing as spec;
+
+use crate::code::{RowNode, ValueType};
+use std::alloc::Global;
+use std::marker::Model;
+use xs_base::{Bytes, Fault, FileOf, Memory, Refuse};
+use xs_csyn::CType;
+use xs_values::Kind;
+
+/// What an operand of a row has to be.
+#[derive(Clone, Copy, Debug, PartialEq, Eq)]
+pub enum OperandSort {
+    ANumber,
+    AScalar,
+}
+
+/// A variable in scope, with its slot.
+#[derive(Debug, Drop)]
+pub struct Local {
+    pub name: Bytes,
+    pub of_type: ValueType,
+    pub slot: u32,
+}
+
+// Words to which the XS interface gives a meaning, so that no variable has such a name (perlxs, perlapi).
+const INTERFACE_WORDS: [&str; 24] = [
+    "ENTER",
+    "FREETMPS",
+    "LEAVE",
+    "PUTBACK",
+    "SAVETMPS",
+    "SP",
+    "SPAGAIN",
+    "ST",
+    "SvIV",
+    "XSRETURN",
+    "XSRETURN_EMPTY",
+    "XSRETURN_NO",
+    "XSRETURN_UNDEF",
+    "XSRETURN_YES",
+    "croak_xs_usage",
+    "cv",
+    "dSP",
+    "dXSARGS",
+    "dXSI32",
+    "items",
+    "ix",
+    "newXS_deffile",
+    "sv_newmortal",
+    "sv_setiv",
+];
+
+fn is_among(words: &[&str], word: &[u8]) -> bool
+    ensures { result ≡ spec.is_among (map (λ w. w.now) words.now) word.now }
+{
+    for w in words {
+        if w.as_bytes() == word {
+            return true;
+        }
+    }
+    false
+}
+
+#[tactic(auto, unfolding(crate::specs::Typing::is_interface_word))]
+fn is_interface_word(word: &[u8]) -> bool
+    ensures { result ≡ spec.is_interface_word word.now }
+{
+    is_among(&INTERFACE_WORDS, word)
+}
+
+// ---- faults
+
+pub(crate) fn fault(line: u32, code: u16, word: Bytes) -> Fault
+    ensures { result ≡ spec.fault line code word }
+{
+    Fault {
+        file: FileOf::Text,
+        line,
+        code,
+        word,
+    }
+}
+
+pub(crate) fn types_differ(alloc: Global, line: u32) -> Refuse
+    ensures { result ≡ refuse.Fault (spec.types_differ line) }
+{
+    Refuse::Fault(fault(line, 803, Bytes::new(alloc)))
+}
+
+// The fault of a name that means nothing where it stands.
+pub(crate) fn unknown(alloc: Global, code: u16, line: u32, name: &[u8]) -> Result<Fault, Memory>
+    ensures { IfOk result (λ f. f ≡ spec.unknown code line name.now) }
+{
+    let word = Bytes::from_slice(alloc, name)?;
+    if is_interface_word(name) {
+        Ok(fault(line, 807, word))
+    } else {
+        Ok(fault(line, code, word))
+    }
+}
+
+// Whether a word is another.
+pub(crate) fn is(word: &[u8], other: &[u8]) -> bool
+    ensures { result ≡ bytes_eq word.now other.now }
+{
+    word == other
+}
+
+// ---- types
+
+pub(crate) fn is_number(t: ValueType) -> bool
+    ensures { result ≡ spec.is_number t }
+{
+    match t {
+        ValueType::Number(_) => true,
+        ValueType::Scalar | ValueType::Void => false,
+    }
+}
+
+pub(crate) fn is_scalar(t: ValueType) -> bool
+    ensures { result ≡ spec.is_scalar t }
+{
+    match t {
+        ValueType::Scalar => true,
+        ValueType::Number(_) | ValueType::Void => false,
+    }
+}
+
+pub(crate) fn goes_into(from: ValueType, to: ValueType) -> bool
+    ensures { result ≡ spec.goes_into from to }
+{
+    match from {
+        ValueType::Number(_) => is_number(to),
+        ValueType::Scalar => is_scalar(to),
+        ValueType::Void => false,
+    }
+}
+
+fn is_spelled(t: &CType, name: &[u8], stars: u32) -> bool
+    ensures { result ≡ (bytes_eq t.now.name name.now && nat_eq t.now.stars stars) }
+{
+    t.name.as_slice() == name && t.stars == stars
+}
+
+// The type that is spelt so, where it may be the type of a variable.
+#[tactic(auto, unfolding(crate::specs::Typing::type_named))]
+pub(crate) fn type_named(t: &CType) -> Option<ValueType>
+    ensures { result ≡ spec.type_named t.now }
+{
+    if is_spelled(t, b"int", 0) {
+        return Some(ValueType::Number(Kind::I32));
+    }
+    if is_spelled(t, b"IV", 0) {
+        return Some(ValueType::Number(Kind::I64));
+    }
+    if is_spelled(t, b"SV", 1) {
+        return Some(ValueType::Scalar);
+    }
+    None
+}
+
+// ---- rows that are called as functions
+
+#[tactic(auto, unfolding(crate::specs::Typing::row_named))]
+pub(crate) fn row_named(name: &[u8]) -> Option<RowNode>
+    ensures row { spec.row_named name.now ≡ option_map (row_of []) result }
+    ensures bare { IfSome result (λ r. row_has_text 0 r ≡ true) }
+{
+    if is(name, b"SvIV") {
+        return Some(RowNode::SvIv);
+    }
+    if is(name, b"ST") {
+        return Some(RowNode::StRead);
+    }
+    if is(name, b"sv_newmortal") {
+        return Some(RowNode::SvNewMortal);
+    }
+    if is(name, b"sv_setiv") {
+        return Some(RowNode::SvSetIv);
+    }
+    if is(name, b"XSRETURN") {
+        return Some(RowNode::XsReturn);
+    }
+    None
+}
+
+const NOTHING: [OperandSort; 0] = [];
+
+const ONE_NUMBER: [OperandSort; 1] = [OperandSort::ANumber];
+
+const ONE_SCALAR: [OperandSort; 1] = [OperandSort::AScalar];
+
+const SCALAR_AND_NUMBER: [OperandSort; 2] = [OperandSort::AScalar, OperandSort::ANumber];
+
+pub(crate) fn sorts_of(row: RowNode) -> &'static [OperandSort]
+    ensures { result.now ≡ spec.sorts_of (row_of [] row) }
+{
+    match row {
+        RowNode::SvIv => &ONE_SCALAR,
+        RowNode::StRead | RowNode::XsReturn => &ONE_NUMBER,
+        RowNode::SvSetIv | RowNode::StSet => &SCALAR_AND_NUMBER,
+        RowNode::Entry
+        | RowNode::SvNewMortal
+        | RowNode::XsReturnYes
+        | RowNode::CroakUsage(_)
+        | RowNode::NewXs(_, _) => &NOTHING,
+    }
+}
+
+pub(crate) fn type_given(row: RowNode) -> ValueType
+    ensures { result ≡ spec.type_given (row_of [] row) }
+{
+    match row {
+        RowNode::SvIv => ValueType::Number(Kind::I64),
+        RowNode::StRead | RowNode::SvNewMortal | RowNode::StSet => ValueType::Scalar,
+        RowNode::Entry
+        | RowNode::SvSetIv
+        | RowNode::XsReturn
+        | RowNode::XsReturnYes
+        | RowNode::CroakUsage(_)
+        | RowNode::NewXs(_, _) => ValueType::Void,
+    }
+}
+
+pub(crate) fn is_sort(sort: OperandSort, t: ValueType) -> bool
+    ensures { result ≡ spec.is_sort sort t }
+{
+    match sort {
+        OperandSort::ANumber => is_number(t),
+        OperandSort::AScalar => is_scalar(t),
+    }
+}
+
+// ---- variables
+
+/// What is known of a variable.
+#[derive(Clone, Copy, Debug)]
+pub struct Found {
+    pub of_type: ValueType,
+    pub slot: u32,
+}
+
+// The variable of a name.
+#[tactic(auto, unfolding(crate::specs::Typing::variable_of))]
+pub(crate) fn variable_of(locals: &[Local], name: &[u8]) -> Option<Found>
+    ensures { result ≡ spec.variable_of locals.now name.now }
+{
+    for local in locals {
+        if local.name.as_slice() == name {
+            return Some(Found {
+                of_type: local.of_type,
+                slot: local.slot,
+            });
+        }
+    }
+    None
+}
+
+// Where a statement stands.
+#[derive(Drop)]
+pub(crate) struct Scope {
+    locals: Vec<Local>,
+    slots: u32,
+    entered: bool,
+    in_boot: bool,
+}
+
+impl Model for Scope {
+    ghost use Rattle.xs_ccheck.specs.Typing as spec;
+
+    ghost Value = { spec.Scope };
+
+    ghost view = { λ s. record { variables = s.locals.items; slots = s.slots; entered = s.entered; in_boot = s.in_boot } };
+}
+
+impl Scope {
+    // Where the first statement of a function stands.
+    #[tactic(auto)]
+    pub(crate) fn new(alloc: Global, in_boot: bool) -> Scope
+        ensures { result ≡ record { variables = []; slots = 0; entered = false; in_boot = in_boot } }
+    {
+        Scope {
+            locals: Vec::new(alloc),
+            slots: 0,
+            entered: false,
+            in_boot,
+        }
+    }
+
+    pub(crate) fn locals(&self) -> &[Local]
+        ensures { result.now ≡ self.now.variables }
+    {
+        self.locals.as_slice()
+    }
+
+    pub(crate) fn slots(&self) -> u32
+        ensures { result ≡ self.now.slots }
+    {
+        self.slots
+    }
+
+    pub(crate) fn is_entered(&self) -> bool
+        ensures { result ≡ self.now.entered }
+    {
+        self.entered
+    }
+
+    pub(crate) fn is_in_boot(&self) -> bool
+        ensures { result ≡ self.now.in_boot }
+    {
+        self.in_boot
+    }
+
+    pub(crate) fn enter(&mut self)
+        ensures { self.new ≡ spec.with_entry self.old }
+    {
+        self.entered = true;
+    }
+
+    // Forgets the variables that were declared behind the first so many.
+    pub(crate) fn forget_behind(&mut self, count: usize)
+        ensures { self.new ≡ record { variables = take count self.old.variables; slots = self.old.slots; entered = self.old.entered; in_boot = self.old.in_boot } }
+    {
+        self.locals.truncate(count);
+    }
+
+    // Whether a name may not be declared.
+    #[tactic(auto, unfolding(crate::specs::Typing::is_taken))]
+    pub(crate) fn is_taken(&self, name: &[u8]) -> bool
+        ensures { result ≡ spec.is_taken self.now.variables name.now }
+    {
+        is_interface_word(name) || variable_of(self.locals.as_slice(), name).is_some()
+    }
+
+    // Declares a variable, and gives its slot.
+    pub(crate) fn declare(
+        &mut self,
+        alloc: Global,
+        name: &[u8],
+        of_type: ValueType,
+    ) -> Result<u32, Memory>
+        ensures slot { IfOk result (λ slot. slot ≡ self.old.slots) }
+        ensures scope { IfOk result (λ slot. self.new ≡ spec.with_variable self.old name.now of_type) }
+    {
+        let slot = self.slots;
+        let name = Bytes::from_slice(alloc, name)?;
+        let Some(slots) = slot.checked_add(1) else {
+            return Err(Memory);
+        };
+        self.locals.push(Local {
+            name,
+            of_type,
+            slot,
+        })?;
+        self.slots = slots;
+        Ok(slot)
+    }
+}

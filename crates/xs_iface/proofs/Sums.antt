@@ -1,0 +1,340 @@
+-- What holds of the module of each XS file whose XSUBs are sums.
+use Rattle.std.proofs.Common.{◌≡◌, ℕ, zero, suc, ◌≤◌, ◌<◌, ◌&&◌, ◌||◌, Bool, true, false, not, List, [], ◌∷◌, ◌++◌, codes, length, map, Option, None, Some, Result, Ok, Err, refl, sym, ap, ◌∙◌, subst, arith}
+use Rattle.std.proofs.lemmas.Bool.Decides.{nat_tests}
+use Rattle.std.proofs.lemmas.List.{length-map}
+use Rattle.std.specs.List.{AllByRecursion, list_all}
+use Rattle.std.specs.Option.{option_map}
+use Rattle.std.specs.Prelude.{option_and_then, if◌then◌else◌, nat_le}
+use Rattle.std.specs.Str.{bytes_eq}
+use Rattle.xs_base.specs.Reading.{◌>>=◌}
+use Rattle.xs_base.specs.declared.fault.Fault.{Fault}
+use Rattle.xs_base.specs.declared.place.Line.{Line}
+use Rattle.xs_iface.specs.declared.drafts.Draft.{Draft}
+use Rattle.xs_iface.specs.declared.paragraph.Interface.{Interface}
+use Rattle.xs_iface.specs.declared.paragraph.Paragraph.{Paragraph}
+use Rattle.xs_iface.specs.declared.paragraph.Sum.{Sum}
+use Rattle.xs_iface.specs.declared.scan.Class.TheVariants.{Blank, Name, Word}
+use Rattle.xs_iface.specs.declared.terms.TheConstants.{INT_MAX, MOST_TERMS}
+use Rattle.xs_iface.specs.declared.xsub.Module.{Module}
+use Rattle.xs_iface.specs.declared.xsub.Param.{Param}
+use Rattle.xs_iface.specs.declared.xsub.Term.TheVariants.{Literal, Parameter}
+use Rattle.xs_iface.specs.declared.xsub.Xsub.{Xsub}
+use Rattle.xs_iface.specs.Iface.{body_paragraph, collect, draft_from, draft_of, draft_or_fault, first_fault, interface_fault, module_from, module_of, module_with, name_fault, param_at, part_line, perl_name, unless_fault, xsub_from, xsub_of}
+use Rattle.xs_iface.specs.Paragraph.{block_text, interface_of, interface_with, is_among, is_frame, is_literal, is_term, is_value, literal_of, paragraph_from, paragraph_of, paragraph_with, place_of, sum_of, sum_with, term_of, value_or_nought}
+use Rattle.xs_base.specs.Scanning.{after_word, begins_word, is_identifier, is_word_byte, value_of_digits}
+use Rattle.xs_iface.specs.Scan.{Chain, behind, belongs, chain_of, chain_within, front_of, linked}
+use Rattle.xs_iface.specs.SumForm.{All, Differ, IsSumModule, IsSumXsub, IsTermOf}
+use Rattle.xs_iface.specs.Words.{is_free, is_reserved}
+use Rattle.xs_iface.proofs.Apart.{are_apart, few_params, names_apart, params_apart}
+use Rattle.xs_iface.proofs.NameBytes.{both, full_bytes, glue_is, glue_tail, is_package, package_bytes, pair, perl_bytes, tail_bytes, word_first}
+use Rattle.xs_sections.specs.Cut.{split_of}
+use Rattle.xs_sections.specs.declared.sections.Part.{Part}
+use Rattle.xs_sections.specs.declared.sections.PartBody.{PartBody}
+use Rattle.xs_sections.specs.declared.sections.PartBody.TheVariants.{Para, Map}
+use Rattle.xs_sections.specs.declared.sections.Sections.{Sections}
+use Rattle.xs_sections.proofs.Named.{are_named, is_name_or_empty}
+
+-- ---- what a chain of steps came from
+
+record Chained {A B : Type 0} (k : A → Option B) (o : Option A) (b : B) : Type 0 where
+  at : A
+  was : o ≡ Some at
+  then_is : k at ≡ Some b
+
+chained : {A B : Type 0} (k : A → Option B) (o : Option A) (b : B) → option_and_then k o ≡ Some b → Chained k o b
+chained k None b h = absurd cc
+chained k (Some a) b h = record { at = a; was = refl; then_is = h }
+
+record Mapped {A B : Type 0} (f : A → B) (o : Option A) (b : B) : Type 0 where
+  at : A
+  was : o ≡ Some at
+  then_is : f at ≡ b
+
+mapped : {A B : Type 0} (f : A → B) (o : Option A) (b : B) → option_map f o ≡ Some b → Mapped f o b
+mapped f None b h = absurd cc
+mapped f (Some a) b h = record { at = a; was = refl; then_is = cc }
+
+-- what a test let through
+record Passed {A : Type 0} (t : Bool) (a b : A) : Type 0 where
+  test : t ≡ true
+  same : a ≡ b
+
+passed : {A : Type 0} (t : Bool) (a b : A) → (if t then Some a else None) ≡ Some b → Passed t a b
+passed true a b h = record { test = refl; same = cc }
+passed false a b h = absurd cc
+
+record Bound {A B : Type 0} (r : Result A Fault) (k : A → Result B Fault) (b : B) : Type 0 where
+  at : A
+  was : r ≡ Ok at
+  then_is : k at ≡ Ok b
+
+bound : {A B : Type 0} (r : Result A Fault) (k : A → Result B Fault) (b : B) → (r >>= k) ≡ Ok b → Bound r k b
+bound (Ok a) k b h = record { at = a; was = refl; then_is = h }
+bound (Err f) k b h = absurd cc
+
+record Faultless {A : Type 0} (o : Option Fault) (a b : A) : Type 0 where
+  none : o ≡ None
+  same : a ≡ b
+
+faultless : {A : Type 0} (o : Option Fault) (a b : A) → unless_fault o a ≡ Ok b → Faultless o a b
+faultless None a b h = record { none = refl; same = cc }
+faultless (Some f) a b h = absurd cc
+
+one_value : {A : Type 0} (r : Result A Fault) (a b : A) → r ≡ Ok a → r ≡ Ok b → a ≡ b
+one_value r a b e f = cc
+
+-- what holds of all that a list gives
+collected : {A B : Type 0} (read : A → Result B Fault) (P : A → Type 0) (Q : B → Type 0) → ((x : A) (y : B) → P x → read x ≡ Ok y → Q y)
+    → (xs : List A) (ys : List B) → AllByRecursion P xs → collect read xs ≡ Ok ys → AllByRecursion Q ys
+collected read P Q each [] ys p h = subst (AllByRecursion Q) (one_value (Ok []) [] ys refl h) tt
+collected read P Q each (x ∷ xs) ys p h =
+    let a = bound (read x) (λ y. collect read xs >>= (λ zs. Ok (y ∷ zs))) ys h in
+    let b = bound (collect read xs) (λ zs. Ok (a.at ∷ zs)) ys a.then_is in
+    subst (AllByRecursion Q) (one_value (Ok (a.at ∷ b.at)) (a.at ∷ b.at) ys refl b.then_is) (each x a.at p.0 a.was, collected read P Q each xs b.at p.1 b.was)
+
+-- ---- terms
+
+within : (a b : ℕ) → nat_le a b ≡ true → a ≤ b
+within a b h = grind (arith, nat_tests)
+
+literal_fits : (word : List ℕ) (o : Option ℕ) → literal_of word ≡ o → is_value o ≡ true → value_or_nought o ≤ INT_MAX
+literal_fits word None e h = absurd cc
+literal_fits word (Some value) e h =
+    let p = passed (is_literal word && nat_le (value_of_digits word) INT_MAX) (value_of_digits word) value e in
+    let q = both (is_literal word) (nat_le (value_of_digits word) INT_MAX) p.test in
+    subst (λ (v : ℕ). v ≤ INT_MAX) p.same (within (value_of_digits word) INT_MAX q.1)
+
+place_within : (params : List (List ℕ)) (word : List ℕ) → is_among params word ≡ true → place_of params word < length params
+place_within [] word h = absurd cc
+place_within (p ∷ ps) word h = by (bytes_eq p word) h (place_within ps word)
+  where
+    by : (t : Bool) → (t || is_among ps word) ≡ true → (is_among ps word ≡ true → place_of ps word < length ps) → (if t then zero else suc (place_of ps word)) < suc (length ps)
+    by true g ih = omega arith
+    by false g ih = let le = ih g in omega (arith, le)
+
+term_fits : (params : List (List ℕ)) (word : List ℕ) → is_term params word ≡ true → IsTermOf (length params) (term_of params word)
+term_fits params word h = by (is_among params word) refl h
+  where
+    by : (t : Bool) → is_among params word ≡ t → (t || is_value (literal_of word)) ≡ true
+        → IsTermOf (length params) (if t then Parameter (place_of params word) else Literal (value_or_nought (literal_of word)))
+    by true e g = place_within params word e
+    by false e g = literal_fits word (literal_of word) refl g
+
+terms_fit : (params words : List (List ℕ)) → list_all (is_term params) words ≡ true → All (IsTermOf (length params)) (map (term_of params) words)
+terms_fit params [] h = tt
+terms_fit params (w ∷ ws) h = let g = both (is_term params w) (list_all (is_term params) ws) h in (term_fits params w g.0, terms_fit params ws g.1)
+
+-- ---- paragraphs
+
+record IsSumParagraph (q : Paragraph) : Type 0 where
+  function : is_free q.function ≡ true
+  params : list_all is_free q.params ≡ true
+  blanks : list_all (belongs Blank) q.indent ≡ true
+  first : List ℕ
+  more : List (List ℕ)
+  words : q.words ≡ first ∷ more
+  few : length q.words ≤ 32
+  terms : list_all (is_term q.params) q.words ≡ true
+
+record IsInterface (i : Interface) : Type 0 where
+  function : is_free i.function ≡ true
+  params : list_all is_free i.params ≡ true
+
+interface_is : (text : List ℕ) (i : Interface) → interface_of text ≡ Some i → IsInterface i
+interface_is text i h =
+    let a = chained (λ (list : List ℕ). interface_with (front_of Word text) (chain_of (codes ", int ") list)) (after_word (codes "(int ") (behind Word text)) i h in
+    let names : Chain = chain_of (codes ", int ") a.at in
+    let made : Interface = record { function = front_of Word text; params = names.0 } in
+    let p = passed (bytes_eq names.1 (codes ")") && is_free (front_of Word text) && list_all is_free names.0) made i a.then_is in
+    let b = both (bytes_eq names.1 (codes ")") && is_free (front_of Word text)) (list_all is_free names.0) p.test in
+    let c = both (bytes_eq names.1 (codes ")")) (is_free (front_of Word text)) b.0 in
+    subst IsInterface p.same (record { function = c.1; params = b.1 })
+
+record IsSum (params : List (List ℕ)) (s : Sum) : Type 0 where
+  blanks : list_all (belongs Blank) s.indent ≡ true
+  first : List ℕ
+  more : List (List ℕ)
+  words : s.words ≡ first ∷ more
+  few : length s.words ≤ 32
+  terms : list_all (is_term params) s.words ≡ true
+
+blank_run : (text : List ℕ) → list_all (belongs Blank) (front_of Blank text) ≡ true
+blank_run [] = refl
+blank_run (b ∷ bs) = by (belongs Blank b) refl (blank_run bs)
+  where
+    by : (t : Bool) → belongs Blank b ≡ t → list_all (belongs Blank) (front_of Blank bs) ≡ true → list_all (belongs Blank) (if t then b ∷ front_of Blank bs else []) ≡ true
+    by true e ih = ap (λ t. t && list_all (belongs Blank) (front_of Blank bs)) e ∙ ih
+    by false e ih = refl
+
+record HasWord (words : List (List ℕ)) : Type 0 where
+  first : List ℕ
+  more : List (List ℕ)
+  is : words ≡ first ∷ more
+
+-- where `;` is left of a text, a word stood in front of it
+has_word : (divider text : List ℕ) → bytes_eq (chain_of divider text).1 (codes ";") ≡ true → HasWord (chain_of divider text).0
+unfolding chain_of
+has_word divider [] h = absurd cc
+has_word divider (b ∷ bs) h = by (after_word divider (behind Word (b ∷ bs)))
+  where
+    by : (o : Option (List ℕ)) → HasWord (linked (chain_within (length bs) divider) (front_of Word (b ∷ bs)) (behind Word (b ∷ bs)) o).0
+    by None = record { first = front_of Word (b ∷ bs); more = []; is = refl }
+    by (Some next) = record { first = front_of Word (b ∷ bs); more = (chain_within (length bs) divider next).0; is = refl }
+
+sum_with_is : (params : List (List ℕ)) (text : List ℕ) (words : Chain) (s : Sum) → (bytes_eq words.1 (codes ";") ≡ true → HasWord words.0)
+    → sum_with params (front_of Blank text) words ≡ Some s → IsSum params s
+sum_with_is params text words s some h =
+    let made : Sum = record { indent = front_of Blank text; words = words.0 } in
+    let p = passed (bytes_eq words.1 (codes ";") && nat_le (length words.0) MOST_TERMS && list_all (is_term params) words.0) made s h in
+    let b = both (bytes_eq words.1 (codes ";") && nat_le (length words.0) MOST_TERMS) (list_all (is_term params) words.0) p.test in
+    let c = both (bytes_eq words.1 (codes ";")) (nat_le (length words.0) MOST_TERMS) b.0 in
+    let w = some c.0 in
+    subst (IsSum params) p.same (record {
+      blanks = blank_run text;
+      first = w.first;
+      more = w.more;
+      words = w.is;
+      few = within (length words.0) 32 c.1;
+      terms = b.1;
+    })
+
+sum_is : (params : List (List ℕ)) (text : List ℕ) (s : Sum) → sum_of params text ≡ Some s → IsSum params s
+sum_is params text s h =
+    let a = chained (λ (right : List ℕ). option_and_then (λ (terms : List ℕ). sum_with params (front_of Blank text) (chain_of (codes " + ") terms)) (after_word (codes "RETVAL = ") right)) (block_text text) s h in
+    let b = chained (λ (terms : List ℕ). sum_with params (front_of Blank text) (chain_of (codes " + ") terms)) (after_word (codes "RETVAL = ") a.at) s a.then_is in
+    sum_with_is params text (chain_of (codes " + ") b.at) s (has_word (codes " + ") b.at) b.then_is
+
+paragraph_with_is : (interface sum : Line) (output_line : ℕ) (q : Paragraph) → paragraph_with interface sum output_line ≡ Some q → IsSumParagraph q
+paragraph_with_is interface sum output_line q h =
+    let a = chained (λ (names : Interface). option_map (paragraph_from interface sum output_line names) (sum_of names.params sum.text)) (interface_of interface.text) q h in
+    let b = mapped (paragraph_from interface sum output_line a.at) (sum_of a.at.params sum.text) q a.then_is in
+    let i = interface_is interface.text a.at a.was in
+    let s = sum_is a.at.params sum.text b.at b.was in
+    subst IsSumParagraph b.then_is (record {
+      function = i.function;
+      params = i.params;
+      blanks = s.blanks;
+      first = s.first;
+      more = s.more;
+      words = s.words;
+      few = s.few;
+      terms = s.terms;
+    })
+
+framed : (t : Bool) (o : Option Paragraph) (q : Paragraph) → (if t then o else None) ≡ Some q → o ≡ Some q
+framed true o q h = h
+framed false o q h = absurd cc
+
+paragraph_is : (lines : List Line) (q : Paragraph) → paragraph_of lines ≡ Some q → IsSumParagraph q
+paragraph_is [] q h = absurd cc
+paragraph_is (a ∷ []) q h = absurd cc
+paragraph_is (a ∷ b ∷ []) q h = absurd cc
+paragraph_is (a ∷ b ∷ c ∷ []) q h = absurd cc
+paragraph_is (a ∷ b ∷ c ∷ d ∷ []) q h = absurd cc
+paragraph_is (a ∷ b ∷ c ∷ d ∷ e ∷ []) q h = absurd cc
+paragraph_is (kind ∷ interface ∷ code ∷ sum ∷ output ∷ retval ∷ more) q h =
+    paragraph_with_is interface sum retval.number q (framed (is_frame kind.text code.text output.text retval.text more) (paragraph_with interface sum retval.number) q h)
+
+body_is : (body : PartBody) (q : Paragraph) → body_paragraph body ≡ Some q → IsSumParagraph q
+body_is (Para lines) q h = paragraph_is lines q h
+body_is (Map lines) q h = absurd cc
+
+-- ---- drafts
+
+record IsSumDraft (d : Draft) : Type 0 where
+  tail : List ℕ
+  glue : d.glue ≡ codes "XS_" ++ tail
+  tail_bytes : list_all (belongs Word) tail ≡ true
+  full_bytes : list_all (belongs Name) d.full ≡ true
+  paragraph : IsSumParagraph d.paragraph
+
+identifier_bytes : (xs : List ℕ) → is_identifier xs ≡ true → list_all is_word_byte xs ≡ true
+identifier_bytes [] h = absurd cc
+identifier_bytes (b ∷ bs) h =
+    let p = both (begins_word b) (list_all is_word_byte bs) h in pair (is_word_byte b) (list_all is_word_byte bs) (word_first b p.0) p.1
+
+drafted : (part : Part) (q : Paragraph) → is_name_or_empty part.package ≡ true → IsSumParagraph q → IsSumDraft (draft_from part q)
+drafted part q p i =
+    let name = perl_name part.prefix q.function in
+    let package_is = package_bytes part.package p in
+    let free = both (is_identifier q.function) (not (is_reserved q.function)) i.function in
+    let bytes = perl_bytes part.prefix q.function (identifier_bytes q.function free.0) in
+    record {
+      tail = glue_tail part.package name;
+      glue = glue_is part.package name;
+      tail_bytes = tail_bytes part.package name package_is bytes;
+      full_bytes = full_bytes part.package name package_is bytes;
+      paragraph = i;
+    }
+
+draft_is : (module_line : ℕ) (part : Part) (d : Draft) → is_name_or_empty part.package ≡ true → draft_of module_line part ≡ Ok d → IsSumDraft d
+draft_is module_line part d p h = by (body_paragraph part.body) refl h
+  where
+    by : (o : Option Paragraph) → body_paragraph part.body ≡ o → draft_or_fault (part_line module_line part.body) part o ≡ Ok d → IsSumDraft d
+    by None e g = absurd cc
+    by (Some q) e g = let same : draft_from part q ≡ d = cc in subst IsSumDraft same (drafted part q p (body_is part.body q e))
+
+-- ---- XSUBs
+
+free_all : (line : ℕ) (names : List (List ℕ)) → list_all is_free names ≡ true → All (λ (p : Param). is_free p.name ≡ true) (map (param_at line) names)
+free_all line [] h = tt
+free_all line (n ∷ ns) h = let g = both (is_free n) (list_all is_free ns) h in (g.0, free_all line ns g.1)
+
+names_again : (line : ℕ) (names : List (List ℕ)) → map (λ (p : Param). p.name) (map (param_at line) names) ≡ names
+names_again line [] = refl
+names_again line (n ∷ ns) = ap (λ (rest : List (List ℕ)). n ∷ rest) (names_again line ns)
+
+xsub_made : (d : Draft) → IsSumDraft d → interface_fault d.paragraph ≡ None → IsSumXsub (xsub_from d)
+xsub_made d i none =
+    let q = i.paragraph in
+    let names = d.paragraph.params in
+    let words = d.paragraph.words in
+    let line = d.paragraph.line in
+    let apart = are_apart [] names (params_apart line [] names none) in
+    let P : ℕ → Type 0 = λ n. n ≤ 64 in
+    let Q : ℕ → Type 0 = λ n. All (IsTermOf n) (map (term_of names) words) in
+    let R : ℕ → Type 0 = λ n. n ≤ 32 in
+    record {
+      tail = i.tail;
+      glue = i.glue;
+      tail_bytes = i.tail_bytes;
+      full_bytes = i.full_bytes;
+      free_params = free_all line names q.params;
+      params_differ = subst Differ (sym (names_again line names)) apart.differ;
+      few_params = subst P (sym (length-map names (param_at line))) (few_params line names none);
+      blanks = q.blanks;
+      first_term = term_of names q.first;
+      more_terms = map (term_of names) q.more;
+      sum_is = ap (λ (ws : List (List ℕ)). map (term_of names) ws) q.words;
+      terms = subst Q (sym (length-map names (param_at line))) (terms_fit names words q.terms);
+      few_terms = subst R (sym (length-map words (term_of names))) q.few;
+    }
+
+xsub_is : (d : Draft) (x : Xsub) → IsSumDraft d → xsub_of d ≡ Ok x → IsSumXsub x
+xsub_is d x i h =
+    let f = faultless (interface_fault d.paragraph) (xsub_from d) x h in
+    subst IsSumXsub f.same (xsub_made d i f.none)
+
+-- ---- modules
+
+all_are : {A : Type 0} (P : A → Type 0) (xs : List A) → AllByRecursion P xs → All P xs
+all_are P [] h = tt
+all_are P (x ∷ xs) h = (h.0, all_are P xs h.1)
+
+-- The module of an XS file is one of XSUBs that are sums.
+pub module_gives_sums : (bytes : List ℕ) (s : Sections) (m : Module) → split_of bytes ≡ Ok s → module_of s ≡ Ok m → IsSumModule m
+unfolding module_of
+module_gives_sums bytes s m split h =
+    let named = are_named bytes s split in
+    let c = bound (collect (draft_of s.module_line) s.parts >>= collect xsub_of) (module_with s) m h in
+    let b = bound (collect (draft_of s.module_line) s.parts) (collect xsub_of) c.at c.was in
+    let drafts = collected (draft_of s.module_line) (λ (p : Part). is_name_or_empty p.package ≡ true) IsSumDraft (draft_is s.module_line) s.parts b.at named.packages b.was in
+    let xsubs = collected xsub_of IsSumDraft IsSumXsub xsub_is b.at c.at drafts b.then_is in
+    let f = faultless (first_fault name_fault [] c.at) (module_from s c.at) m c.then_is in
+    let apart = names_apart [] c.at f.none in
+    subst IsSumModule f.same (record {
+      boot = is_package s.module named.module_name;
+      xsubs = all_are IsSumXsub c.at xsubs;
+      names_differ = (are_apart [] (map (λ (x : Xsub). x.full) c.at) apart.0).differ;
+      glues_differ = (are_apart [] (map (λ (x : Xsub). x.glue) c.at) apart.1).differ;
+    })

@@ -1,0 +1,5 @@
+use Rattle.xs_iface.proofs.Sums.{module_gives_sums}
+use Rattle.xs_iface.proofs.laws.module_is_of_sums.Goals as goal
+
+pub returns : goal.returns
+returns c = module_gives_sums

@@ -1,0 +1,127 @@
+-- The form of an XSUB that gives a sum: its six lines, and what they say.
+use Rattle.std.specs.List.{list_all, list_any}
+use Rattle.std.specs.Option.{option_map}
+use Rattle.std.specs.Prelude.{ℕ, zero, suc, ◌==◌, ◌&&◌, ◌||◌, not, nat_le, Bool, true, false, List, [], ◌∷◌, length, codes, Option, None, Some, option_and_then, if◌then◌else◌}
+use Rattle.std.specs.Str.{bytes_eq}
+use Rattle.xs_base.specs.declared.place.Line.{Line}
+use Rattle.xs_iface.specs.declared.paragraph.Interface.{Interface}
+use Rattle.xs_iface.specs.declared.paragraph.Paragraph.{Paragraph}
+use Rattle.xs_iface.specs.declared.paragraph.Sum.{Sum}
+use Rattle.xs_iface.specs.declared.scan.Class.TheVariants.{Blank, Word}
+use Rattle.xs_iface.specs.declared.terms.TheConstants.{INT_MAX, MOST_TERMS}
+use Rattle.xs_iface.specs.declared.xsub.Term.{Term}
+use Rattle.xs_iface.specs.declared.xsub.Term.TheVariants.{Literal, Parameter}
+use Rattle.xs_iface.specs.Words.{is_free}
+use Rattle.xs_base.specs.Scanning.{after_word, is_blank_line, is_digit, value_of_digits}
+use Rattle.xs_iface.specs.Scan.{Chain, behind, chain_of, front_of, is_nothing}
+
+-- ---- terms
+
+-- digits, one at least, without a zero in front of others
+abbrev pub is_literal : List ℕ → Bool
+is_literal [] = false
+is_literal (d ∷ []) = is_digit d
+is_literal (d ∷ e ∷ es) = not (d == 48) && list_all is_digit (d ∷ e ∷ es)
+
+-- the value of a decimal literal, which is at most the greatest `int`
+abbrev pub literal_of : List ℕ → Option ℕ
+literal_of word = if is_literal word && nat_le (value_of_digits word) INT_MAX then Some (value_of_digits word) else None
+
+-- whether a name is among others
+abbrev pub is_among : List (List ℕ) → List ℕ → Bool
+is_among names word = list_any (λ name. bytes_eq name word) names
+
+abbrev pub is_value : Option ℕ → Bool
+is_value None = false
+is_value (Some value) = true
+
+-- A term is the name of a parameter, or a literal.
+abbrev pub is_term : List (List ℕ) → List ℕ → Bool
+is_term params word = is_among params word || is_value (literal_of word)
+
+abbrev pub value_or_nought : Option ℕ → ℕ
+value_or_nought None = 0
+value_or_nought (Some value) = value
+
+-- the first place at which a name stands
+abbrev pub place_of : List (List ℕ) → List ℕ → ℕ
+place_of [] word = zero
+place_of (name ∷ names) word = if bytes_eq name word then zero else suc (place_of names word)
+
+-- what a term says: the first parameter of that name, or else the literal
+abbrev pub term_of : List (List ℕ) → List ℕ → Term
+term_of params word = if is_among params word then Parameter (place_of params word) else Literal (value_or_nought (literal_of word))
+
+-- ---- lines
+
+-- what stands behind the blanks in front of a line, of which there is one at least
+abbrev pub block_text : List ℕ → Option (List ℕ)
+block_text text = if is_nothing (front_of Blank text) then None else Some (behind Blank text)
+
+abbrev pub is_word_alone : List ℕ → Option (List ℕ) → Bool
+is_word_alone word None = false
+is_word_alone word (Some rest) = bytes_eq rest word
+
+-- a line of blanks, one at least, and a word
+abbrev pub is_block_line : List ℕ → List ℕ → Bool
+is_block_line word text = is_word_alone word (block_text text)
+
+-- the names are free, and the line is at its end
+abbrev pub interface_with : List ℕ → Chain → Option Interface
+interface_with function names =
+    if bytes_eq names.1 (codes ")") && is_free function && list_all is_free names.0
+    then Some (record { function = function; params = names.0 }) else None
+
+-- `f(int p, int q, ..)`, of one parameter or more
+abbrev pub interface_of : List ℕ → Option Interface
+interface_of text = option_and_then (λ list. interface_with (front_of Word text) (chain_of (codes ", int ") list)) (after_word (codes "(int ") (behind Word text))
+
+-- the words are terms, no more than may be, and the line is at its end
+abbrev pub sum_with : List (List ℕ) → List ℕ → Chain → Option Sum
+sum_with params indent words =
+    if bytes_eq words.1 (codes ";") && nat_le (length words.0) MOST_TERMS && list_all (is_term params) words.0
+    then Some (record { indent = indent; words = words.0 }) else None
+
+-- `RETVAL = T + T + ..;` behind blanks
+abbrev pub sum_of : List (List ℕ) → List ℕ → Option Sum
+sum_of params text =
+    option_and_then (λ right. option_and_then (λ terms. sum_with params (front_of Blank text) (chain_of (codes " + ") terms)) (after_word (codes "RETVAL = ") right)) (block_text text)
+
+-- ---- paragraphs
+
+-- the lines around the names and the terms: the type of the result, the keywords, RETVAL, and empty lines at the end
+abbrev pub is_frame : List ℕ → List ℕ → List ℕ → List ℕ → List Line → Bool
+is_frame kind code output retval more =
+    bytes_eq kind (codes "int") && is_block_line (codes "CODE:") code && is_block_line (codes "OUTPUT:") output && is_block_line (codes "RETVAL") retval
+    && list_all (λ (line : Line). is_blank_line line.text) more
+
+abbrev pub paragraph_from : Line → Line → ℕ → Interface → Sum → Paragraph
+paragraph_from interface sum output_line names terms =
+    record {
+      line = interface.number;
+      function = names.function;
+      params = names.params;
+      code_line = sum.number;
+      indent = terms.indent;
+      words = terms.words;
+      output_line = output_line;
+    }
+
+-- what the interface line and the line of the sum say
+abbrev pub paragraph_with : Line → Line → ℕ → Option Paragraph
+paragraph_with interface sum output_line =
+    option_and_then (λ names. option_map (paragraph_from interface sum output_line names) (sum_of names.params sum.text)) (interface_of interface.text)
+
+-- A paragraph of the form is six lines, `int`, the interface, `CODE:`, the sum, `OUTPUT:` and `RETVAL`, and empty lines behind them.
+abbrev pub paragraph_of : List Line → Option Paragraph
+paragraph_of (kind ∷ interface ∷ code ∷ sum ∷ output ∷ retval ∷ more) =
+    if is_frame kind.text code.text output.text retval.text more then paragraph_with interface sum retval.number else None
+paragraph_of _ = None
+
+abbrev pub is_some_paragraph : Option Paragraph → Bool
+is_some_paragraph None = false
+is_some_paragraph (Some paragraph) = true
+
+-- whether lines are a paragraph of the form
+abbrev pub is_sum_paragraph : List Line → Bool
+is_sum_paragraph lines = is_some_paragraph (paragraph_of lines)

@@ -1,0 +1,247 @@
+//! Modules of small files, worked out by hand from the rules of perlxs. In the files a line `!INTERFACE|SUM` stands for the six lines of an
+//! XSUB and an empty line.
+use crate::{Module, Param, Term, Xsub, read_module};
+use std::alloc::Global;
+use std::test::Fail;
+use xs_base::{Bytes, Memory, Refuse};
+use xs_sections::{Sections, split};
+
+fn add_number(alloc: Global, out: &mut Bytes, n: u32) -> Result<(), Memory> {
+    let text = format!(in alloc; "{n}")?;
+    out.append(text.as_str().as_bytes())
+}
+
+fn add_term(alloc: Global, out: &mut Bytes, term: Term) -> Result<(), Memory> {
+    match term {
+        Term::Parameter(place) => {
+            out.append(b" $")?;
+            add_number(alloc, out, place)
+        }
+        Term::Literal(value) => {
+            out.append(b" ")?;
+            add_number(alloc, out, value)
+        }
+    }
+}
+
+fn add_param(alloc: Global, out: &mut Bytes, param: &Param) -> Result<(), Memory> {
+    out.append(b" ")?;
+    out.append(param.name.as_slice())?;
+    out.append(b"@")?;
+    add_number(alloc, out, param.line)
+}
+
+// The lines and names of an XSUB, its parameters, and its terms.
+fn add_xsub(alloc: Global, out: &mut Bytes, x: &Xsub) -> Result<(), Memory> {
+    out.append(b"X ")?;
+    add_number(alloc, out, x.line)?;
+    out.append(b" ")?;
+    add_number(alloc, out, x.code_line)?;
+    out.append(b" ")?;
+    add_number(alloc, out, x.output_line)?;
+    out.append(b" '")?;
+    out.append(x.full.as_slice())?;
+    out.append(b"' ")?;
+    out.append(x.c_name.as_slice())?;
+    out.append(b" ")?;
+    out.append(x.glue.as_slice())?;
+    for param in x.params.as_slice() {
+        add_param(alloc, out, param)?;
+    }
+    out.append(b" =")?;
+    for term in x.sum.as_slice() {
+        add_term(alloc, out, *term)?;
+    }
+    out.append(b"\n")
+}
+
+fn add_module(alloc: Global, out: &mut Bytes, m: &Module) -> Result<(), Memory> {
+    out.append(m.boot.as_slice())?;
+    out.append(b" ")?;
+    add_number(alloc, out, m.boot_line)?;
+    out.append(b"\n")?;
+    for line in m.c_part.as_slice() {
+        out.append(b"C ")?;
+        add_number(alloc, out, line.number)?;
+        out.append(b" ")?;
+        out.append(line.text.as_slice())?;
+        out.append(b"\n")?;
+    }
+    for x in m.xsubs.as_slice() {
+        add_xsub(alloc, out, x)?;
+    }
+    Ok(())
+}
+
+// A module as text, or its fault.
+fn add_answer(
+    alloc: Global,
+    out: &mut Bytes,
+    answer: Result<Module, Refuse>,
+) -> Result<(), Memory> {
+    match answer {
+        Ok(m) => add_module(alloc, out, &m),
+        Err(Refuse::Memory) => Err(Memory),
+        Err(Refuse::Fault(f)) => {
+            out.append(b"F ")?;
+            add_number(alloc, out, f.line)?;
+            out.append(b" ")?;
+            add_number(alloc, out, f.code as u32)?;
+            out.append(b" ")?;
+            out.append(f.word.as_slice())
+        }
+    }
+}
+
+fn sections_of(alloc: Global, src: &Bytes) -> Result<Sections, Refuse> {
+    if src.len() > 1_000_000 {
+        return Err(Refuse::Memory);
+    }
+    split(alloc, src)
+}
+
+fn shown(alloc: Global, src: &Bytes) -> Result<Bytes, Memory> {
+    let mut out = Bytes::new(alloc);
+    match sections_of(alloc, src) {
+        Ok(s) => add_answer(alloc, &mut out, read_module(alloc, &s))?,
+        Err(_) => return Err(Memory),
+    }
+    Ok(out)
+}
+
+// An XSUB by its interface and its sum.
+fn add_lines(src: &mut Bytes, interface: &[u8], sum: &[u8]) -> Result<(), Memory> {
+    src.append(b"int\n")?;
+    src.append(interface)?;
+    src.append(b"\n  CODE:\n    RETVAL = ")?;
+    src.append(sum)?;
+    src.append(b";\n  OUTPUT:\n    RETVAL\n\n")
+}
+
+fn file_of(alloc: Global, short: &[u8]) -> Result<Bytes, Memory> {
+    let mut src = Bytes::new(alloc);
+    for line in short.split(|b| *b == b'\n') {
+        if let [b'!', text @ ..] = line {
+            let mut parts = text.split(|b| *b == b'|');
+            let interface = parts.next().unwrap_or(b"".as_slice());
+            add_lines(&mut src, interface, parts.next().unwrap_or(b"".as_slice()))?;
+        } else {
+            src.append(line)?;
+            src.append(b"\n")?;
+        }
+    }
+    Ok(src)
+}
+
+#[test]
+fn table(rt: HostRuntime) -> Result<(), Fail> {
+    let alloc = rt.alloc();
+    let cases: [(&[u8], &[u8]); 25] = [
+        (b"MODULE = M", b"M 1\n"),
+        (
+            b"MODULE = M PACKAGE = M\n!add(int a, int b)|a + b + 7",
+            b"M 1\nX 3 5 7 'M::add' add XS_M_add a@3 b@3 = $0 $1 7\n",
+        ),
+        (
+            b"MODULE = M::N PACKAGE = A::B PREFIX = my_\n!my_f(int a)|a\n!g(int a)|2147483647",
+            b"M::N 1\nX 3 5 7 'A::B::f' my_f XS_A__B_f a@3 = $0\nX 10 12 14 'A::B::g' g XS_A__B_g a@10 = 2147483647\n",
+        ),
+        (
+            b"MODULE = M PREFIX = f\n!f(int a)|0\n!gf(int a)|a",
+            b"M 1\nX 3 5 7 '' f XS__ a@3 = 0\nX 10 12 14 'gf' gf XS__gf a@10 = $0\n",
+        ),
+        (
+            b"#include <x.h>\n\nMODULE = M PACKAGE = A PREFIX = f\n# a comment\n!fg(int a)|a\n=pod\n\n=cut\nMODULE = N PACKAGE = B\n!fg(int a)|a",
+            b"N 15\nC 1 #include <x.h>\nC 2 \nX 6 8 10 'A::g' fg XS_A_g a@6 = $0\nX 17 19 21 'B::fg' fg XS_B_fg a@17 = $0\n",
+        ),
+        (
+            b"MODULE = M\n!f(int a, int b, int a, int b)|a",
+            b"F 3 303 a",
+        ),
+        (
+            b"MODULE = M\n!f(int a, int b, int b, int a)|a",
+            b"F 3 303 b",
+        ),
+        (
+            b"MODULE = M PACKAGE = M\n!f(int a)|a\n!f(int b)|b",
+            b"F 10 407 M::f",
+        ),
+        (
+            b"MODULE = M PACKAGE = A::B\n!f(int a)|a\nMODULE = M PACKAGE = A\n!_B_f(int a)|a",
+            b"F 11 407 A::_B_f",
+        ),
+        (
+            b"MODULE = M PREFIX = p\n!pf(int a)|a\n!g(int a)|a\n!f(int a)|a\n!g(int a)|a",
+            b"F 17 407 f",
+        ),
+        (
+            b"MODULE = M\n!f(int a)|a\n!f(int b, int b)|b",
+            b"F 10 303 b",
+        ),
+        (b"MODULE = M\n!f(int a, int a)|a\nvoid", b"F 9 999 "),
+        (
+            b"MODULE = M\nTYPEMAP: <<E\nx T_IV\nE\n!f(int a)|a",
+            b"F 2 999 ",
+        ),
+        (b"MODULE = M\nTYPEMAP: <<E\nE", b"F 1 999 "),
+        (b"MODULE = M\n\nBOOT:\n    ;", b"F 3 999 "),
+        (b"MODULE = M\n!f()|1", b"F 2 999 "),
+        (b"MODULE = M\n!f(int a)|", b"F 2 999 "),
+        (b"MODULE = M\n!f(int a)|b", b"F 2 999 "),
+        (b"MODULE = M\n!f(int a)|a+1", b"F 2 999 "),
+        (b"MODULE = M\n!f(int a,int b)|a", b"F 2 999 "),
+        (b"MODULE = M\n!f(int a)|2147483648", b"F 2 999 "),
+        (b"MODULE = M\n!f(int a)|01", b"F 2 999 "),
+        (b"MODULE = M\n!f(int items)|1", b"F 2 999 "),
+        (
+            b"MODULE = M\nint\nf(int a)\nCODE:\n    RETVAL = a;\n  OUTPUT:\n    RETVAL",
+            b"F 2 999 ",
+        ),
+        (
+            b"MODULE = M\nint\nf(int a)\n\tCODE:\n RETVAL = a;\n  OUTPUT:\n    RETVAL\n \n\n",
+            b"M 1\nX 3 5 7 'f' f XS__f a@3 = $0\n",
+        ),
+    ];
+    for (short, wanted) in cases {
+        let src = file_of(alloc, short)?;
+        assert!(rt; shown(alloc, &src)?.as_slice() == wanted);
+    }
+    Ok(())
+}
+
+// An XSUB with so many parameters p0, p1 and so on and one more, and with so many terms.
+fn large(alloc: Global, params: u32, last: &[u8], terms: u32) -> Result<Bytes, Memory> {
+    let mut src = Bytes::from_slice(alloc, b"MODULE = M\n")?;
+    let mut interface = Bytes::from_slice(alloc, b"f(")?;
+    for at in 0..params {
+        interface.append(b"int p")?;
+        add_number(alloc, &mut interface, at)?;
+        interface.append(b", ")?;
+    }
+    interface.append(b"int ")?;
+    interface.append(last)?;
+    interface.append(b")")?;
+    let mut sum = Bytes::from_slice(alloc, b"1")?;
+    for _ in 1..terms {
+        sum.append(b" + 1")?;
+    }
+    add_lines(&mut src, interface.as_slice(), sum.as_slice())?;
+    Ok(src)
+}
+
+#[test]
+fn limits(rt: HostRuntime) -> Result<(), Fail> {
+    let alloc = rt.alloc();
+    let most = shown(alloc, &large(alloc, 63, b"q", 32)?)?;
+    assert!(rt;
+        most.as_slice()
+            .starts_with(b"M 1\nX 3 5 7 'f' f XS__f p0@3 p1@3 ")
+    );
+    let more_params = shown(alloc, &large(alloc, 64, b"q", 32)?)?;
+    assert!(rt; more_params.as_slice() == b"F 3 304 ".as_slice());
+    let twice = shown(alloc, &large(alloc, 64, b"p1", 1)?)?;
+    assert!(rt; twice.as_slice() == b"F 3 303 p1".as_slice());
+    let more_terms = shown(alloc, &large(alloc, 1, b"q", 33)?)?;
+    assert!(rt; more_terms.as_slice() == b"F 2 999 ".as_slice());
+    Ok(())
+}

@@ -1,0 +1,93 @@
+-- What a text in pieces is cut into, from one state of the machine to another.
+use Rattle.std.proofs.Common.{◌≡◌, ℕ, zero, suc, ◌+◌, List, [], ◌∷◌, ◌++◌, map, refl, sym, ap, ◌∙◌}
+use Rattle.std.proofs.lemmas.List.{map-append}
+use Rattle.std.specs.Prelude.{Ok, Option}
+use Rattle.xs_base.specs.declared.place.FileOf.TheVariants as file
+use Rattle.xs_csyn.specs.declared.state.Mode.TheVariants as mode
+use Rattle.xs_csyn.specs.declared.state.State.{State}
+use Rattle.xs_csyn.specs.declared.token.Sort.{Sort}
+use Rattle.xs_csyn.specs.declared.token.Sort.TheVariants as sort
+use Rattle.xs_csyn.specs.declared.token.Token.{Token}
+use Rattle.xs_csyn.specs.Lexemes.{Lexeme, Moved, at_line, behind, run}
+use Rattle.xs_csyn.specs.Pieces.{Piece, Plain, Name, Bare, Blank, Line, ArePieces, named, bared, blanked, lined, run_pieces}
+use Rattle.xs_csyn.specs.Tokens.{token, token_of}
+use Rattle.xs_csyn.proofs.Running.{behind-behind}
+
+-- the state at the begin of a line
+abbrev pub fresh : ℕ → State
+fresh n = at_line n mode.Fresh
+
+-- so many lines further down, in the form in which the machine counts them
+abbrev pub later : ℕ → ℕ → ℕ
+later n zero = n
+later n (suc lines) = later n lines + 1
+
+-- ---- tokens
+
+abbrev pub key : ℕ → List ℕ → Token
+key n text = token sort.Key n text
+
+abbrev pub sign : ℕ → List ℕ → Token
+sign n text = token sort.Sign n text
+
+abbrev pub called : ℕ → List ℕ → Token
+called n text = token sort.Name n text
+
+abbrev pub number : ℕ → ℕ → List ℕ → Token
+number n value text = token (sort.Numeral value) n text
+
+abbrev pub quoted : ℕ → List ℕ → Token
+quoted n text = token sort.Quoted n text
+
+-- ---- cuts
+
+-- The machine goes over the pieces from the first state to the second, and what is over on the way are these tokens.
+pub record Cut (ps : List Piece) (a b : State) (ts : List Token) : Type 0 where
+  pub fine : ArePieces ps
+  pub lexemes : List Lexeme
+  pub runs : run_pieces a ps ≡ record { state = b; lexemes = lexemes }
+  pub told : map (token_of file.Text) lexemes ≡ map Ok ts
+
+run_pieces-append : (s : State) (ps qs : List Piece) → run_pieces s (ps ++ qs) ≡ behind (run_pieces s ps).lexemes (run_pieces (run_pieces s ps).state qs)
+run_pieces-append s [] qs = refl
+run_pieces-append s (Plain bytes ∷ ps) qs =
+    ap (behind (run s bytes).lexemes) (run_pieces-append (run s bytes).state ps qs)
+    ∙ behind-behind (run s bytes).lexemes (run_pieces (run s bytes).state ps).lexemes (run_pieces (run_pieces (run s bytes).state ps).state qs)
+run_pieces-append s (Name name ∷ ps) qs =
+    ap (behind (named s name).lexemes) (run_pieces-append (named s name).state ps qs)
+    ∙ behind-behind (named s name).lexemes (run_pieces (named s name).state ps).lexemes (run_pieces (run_pieces (named s name).state ps).state qs)
+run_pieces-append s (Bare text ∷ ps) qs =
+    ap (behind (bared s text).lexemes) (run_pieces-append (bared s text).state ps qs)
+    ∙ behind-behind (bared s text).lexemes (run_pieces (bared s text).state ps).lexemes (run_pieces (run_pieces (bared s text).state ps).state qs)
+run_pieces-append s (Blank blanks ∷ ps) qs =
+    ap (behind (blanked s blanks).lexemes) (run_pieces-append (blanked s blanks).state ps qs)
+    ∙ behind-behind (blanked s blanks).lexemes (run_pieces (blanked s blanks).state ps).lexemes (run_pieces (run_pieces (blanked s blanks).state ps).state qs)
+run_pieces-append s (Line text ∷ ps) qs =
+    ap (behind (lined s text).lexemes) (run_pieces-append (lined s text).state ps qs)
+    ∙ behind-behind (lined s text).lexemes (run_pieces (lined s text).state ps).lexemes (run_pieces (run_pieces (lined s text).state ps).state qs)
+
+are_both : (ps qs : List Piece) → ArePieces ps → ArePieces qs → ArePieces (ps ++ qs)
+are_both [] qs x y = y
+are_both (Plain bytes ∷ ps) qs x y = are_both ps qs x y
+are_both (Name name ∷ ps) qs x y = (x.0, are_both ps qs x.1 y)
+are_both (Bare text ∷ ps) qs x y = (x.0, are_both ps qs x.1 y)
+are_both (Blank blanks ∷ ps) qs x y = (x.0, are_both ps qs x.1 y)
+are_both (Line text ∷ ps) qs x y = (x.0, are_both ps qs x.1 y)
+
+same_joined : {A : Type 0} {a b c d : List A} → a ≡ b → c ≡ d → a ++ c ≡ b ++ d
+same_joined e f = cc
+
+-- what is told of the sorts of two words
+pub two_sorts : {A : Type 0} (f : Option Sort → Option Sort → A) {a b c d : Option Sort} → a ≡ b → c ≡ d → f a c ≡ f b d
+two_sorts f e h = cc
+
+pub nothing_cut : (a : State) → Cut [] a a []
+nothing_cut a = record { fine = tt; lexemes = []; runs = refl; told = refl }
+
+pub joined : {ps qs : List Piece} {a b c : State} {ts us : List Token} → Cut ps a b ts → Cut qs b c us → Cut (ps ++ qs) a c (ts ++ us)
+joined {ps = ps} {qs = qs} {a = a} {b = b} {c = c} {ts = ts} {us = us} x y = record {
+  fine = are_both ps qs x.fine y.fine;
+  lexemes = x.lexemes ++ y.lexemes;
+  runs = run_pieces-append a ps qs ∙ ap (λ (m : Moved). behind m.lexemes (run_pieces m.state qs)) x.runs ∙ ap (behind x.lexemes) y.runs;
+  told = map-append (token_of file.Text) x.lexemes y.lexemes ∙ same_joined x.told y.told ∙ sym (map-append Ok ts us);
+}

@@ -1,0 +1,132 @@
+//! The expressions of the intended tree. Where one is not made, memory is wanting.
+
+ghost use Rattle.std.specs.Prelude.{◌≡◌, [], ◌∷◌, IfOk, codes, fold, map};
+ghost use Rattle.xs_csyn.specs.Tree as t;
+ghost use Rattle.xs_csyn.specs.View.{plain};
+ghost use Rattle.xs_csyn.specs.declared.tree.BinaryOp.TheVariants as op;
+ghost use Rattle.xs_stub.specs.Intended as spec;
+ghost use Rattle.xs_stub.specs.Stub.{joined_names};
+
+use crate::writer::write_names;
+use std::alloc::Global;
+use xs_base::{Bytes, Memory};
+use xs_csyn::{BinaryOp, CType, Expr};
+use xs_iface::{Param, Term};
+
+/// A type by its word, with so many `*` behind it.
+pub fn type_of(alloc: Global, name: &[u8], stars: u32) -> Result<CType, Memory>
+    ensures { IfOk result (λ c. c ≡ record { name = name.now; stars = stars }) }
+{
+    let name = Bytes::from_slice(alloc, name)?;
+    Ok(CType { name, stars })
+}
+
+/// A name that stands for a value.
+#[tactic(auto, using(xs_csyn::proofs::Views::views))]
+pub fn variable(alloc: Global, line: u32, name: &[u8]) -> Result<Expr, Memory>
+    ensures { IfOk result (λ e. plain e ≡ t.Var line name.now) }
+{
+    let name = Bytes::from_slice(alloc, name)?;
+    Ok(Expr::Name(line, name))
+}
+
+/// An integer literal.
+#[tactic(auto, using(xs_csyn::proofs::Views::views))]
+pub fn number(line: u32, value: u64) -> Expr
+    ensures { plain result ≡ t.Num line value }
+{
+    Expr::Int(line, value)
+}
+
+/// A call of a function by its name.
+#[tactic(auto, using(xs_csyn::proofs::Views::views))]
+pub fn call_of(alloc: Global, line: u32, name: &[u8], args: Vec<Expr>) -> Result<Expr, Memory>
+    ensures { IfOk result (λ e. plain e ≡ spec.call_of line name.now (map plain args.items)) }
+{
+    let name = Bytes::from_slice(alloc, name)?;
+    Ok(Expr::Call(line, name, args))
+}
+
+/// One argument.
+pub fn one(alloc: Global, a: Expr) -> Result<Vec<Expr>, Memory>
+    ensures { IfOk result (λ v. map plain v.items ≡ plain a ∷ []) }
+{
+    let mut all = Vec::new(alloc);
+    all.push(a)?;
+    Ok(all)
+}
+
+/// Two arguments.
+pub fn two(alloc: Global, a: Expr, b: Expr) -> Result<Vec<Expr>, Memory>
+    ensures { IfOk result (λ v. map plain v.items ≡ plain a ∷ plain b ∷ []) }
+{
+    let mut all = one(alloc, a)?;
+    all.push(b)?;
+    Ok(all)
+}
+
+/// An expression taken as another type.
+#[tactic(auto, using(xs_csyn::proofs::Views::views))]
+pub fn cast_to(alloc: Global, line: u32, to: CType, a: Expr) -> Result<Expr, Memory>
+    ensures { IfOk result (λ e. plain e ≡ t.Cast line to (plain a)) }
+{
+    Ok(Expr::Cast(line, to, Box::new(alloc, a)?))
+}
+
+/// Two operands with an operator between them.
+#[tactic(auto, using(xs_csyn::proofs::Views::views))]
+pub fn joined(alloc: Global, line: u32, op: BinaryOp, a: Expr, b: Expr) -> Result<Expr, Memory>
+    ensures { IfOk result (λ e. plain e ≡ t.Two line op (plain a) (plain b)) }
+{
+    Ok(Expr::Binary(line, op, Box::new(alloc, a)?, Box::new(alloc, b)?))
+}
+
+/// The `int` that the argument at a place is read as.
+pub fn int_argument(alloc: Global, line: u32, place: u64) -> Result<Expr, Memory>
+    ensures { IfOk result (λ e. plain e ≡ spec.int_argument line place) }
+{
+    let item = call_of(alloc, line, b"ST", one(alloc, number(line, place))?)?;
+    let value = call_of(alloc, line, b"SvIV", one(alloc, item)?)?;
+    let int_type = type_of(alloc, b"int", 0)?;
+    cast_to(alloc, line, int_type, value)
+}
+
+/// The croak over the number of arguments, with the names of the parameters.
+#[tactic(auto, using(xs_csyn::proofs::Views::views))]
+pub fn usage_croak(alloc: Global, line: u32, params: &[Param]) -> Result<Expr, Memory>
+    ensures { IfOk result (λ e. plain e ≡ spec.call_of line (codes "croak_xs_usage") (t.Var line (codes "cv") ∷ t.Str line (joined_names params.now) ∷ [])) }
+{
+    let function = variable(alloc, line, b"cv")?;
+    let names = Expr::Text(line, write_names(alloc, params)?);
+    call_of(alloc, line, b"croak_xs_usage", two(alloc, function, names)?)
+}
+
+fn term_tree(alloc: Global, params: &[Param], line: u32, term: Term) -> Result<Expr, Memory>
+    ensures { IfOk result (λ e. plain e ≡ spec.term_tree params.now line term) }
+{
+    match term {
+        Term::Parameter(at) => match params.get(at as usize) {
+            Some(param) => variable(alloc, line, param.name.as_slice()),
+            None => variable(alloc, line, b""),
+        },
+        Term::Literal(value) => Ok(number(line, value as u64)),
+    }
+}
+
+/// The sum of a term and of those that follow it, grouped to the left.
+pub fn sum_tree(
+    alloc: Global,
+    params: &[Param],
+    line: u32,
+    first: Term,
+    others: &[Term],
+) -> Result<Expr, Memory>
+    ensures { IfOk result (λ e. plain e ≡ fold (λ sum term. t.Two line op.Add sum (spec.term_tree params.now line term)) (spec.term_tree params.now line first) others.now) }
+{
+    let mut sum = term_tree(alloc, params, line, first)?;
+    for term in others {
+        let next = term_tree(alloc, params, line, *term)?;
+        sum = joined(alloc, line, BinaryOp::Add, sum, next)?;
+    }
+    Ok(sum)
+}

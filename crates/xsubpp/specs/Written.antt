@@ -1,0 +1,101 @@
+-- What a command writes on `out`, told of the interface that its XS file declares.
+use Rattle.std.specs.Prelude.{◌≡◌, ℕ, ◌≤◌, List, [], ◌∷◌, length, Option, Some, Ok}
+use Rattle.xs_base.specs.declared.place.FileOf.{FileOf}
+use Rattle.xs_base.specs.declared.place.FileOf.TheVariants.{Xs, Script}
+use Rattle.xs_base.specs.Desks.{Files}
+use Rattle.xs_base.specs.Sinks.{appended}
+use Rattle.xs_call.specs.declared.calls.CallCommand.{CallCommand}
+use Rattle.xs_call.specs.Calls.{calls_said}
+use Rattle.xs_call.specs.Job.{LeavesNothing, TextRunsAsDeclared, module_in}
+use Rattle.xs_call.specs.Meaning.{declared_transcript}
+use Rattle.xs_iface.specs.declared.xsub.Module.{Module}
+use Rattle.xs_script.specs.Expr.{Said}
+use Rattle.xs_script.specs.Script.{script_of}
+use Rattle.xs_stub.specs.Stub.{glue_text}
+use Rattle.xsubpp.specs.declared.top.TheConstants.{FILE_LIMIT}
+use Rattle.xsubpp.specs.Answers.{accepted, files_of, name_of}
+use Rattle.xsubpp.specs.Words.{Command, Compile, Call, Check, command_of}
+
+-- ---- what is taken
+
+-- An XS file is taken where it has a module.
+pub record HasModule (xs : List ℕ) : Type 0 where
+  pub m : Module
+  pub is_module : module_in xs ≡ Ok m
+
+-- A script is taken where its commands are calls.
+pub record HasCalls (script : List ℕ) : Type 0 where
+  pub commands : List Said
+  pub cs : List CallCommand
+  pub is_script : script_of script ≡ Ok commands
+  pub are_calls : calls_said commands ≡ Ok cs
+
+-- All that a command reads is taken.
+abbrev pub IsTaken : Command → (FileOf → List ℕ) → Type 0
+IsTaken (Compile file) bytes = HasModule (bytes Xs)
+IsTaken (Call file script) bytes = HasModule (bytes Xs) × HasCalls (bytes Script)
+IsTaken (Check file) bytes = HasModule (bytes Xs)
+
+-- ---- what is written
+
+-- The glue text of an XS file. For each list of calls the text, read and run, gives the declared transcript and leaves nothing behind.
+pub record IsGlueOf (xs text : List ℕ) : Type 0 where
+  pub m : Module
+  pub is_module : module_in xs ≡ Ok m
+  pub text_is : text ≡ glue_text m
+  pub runs : (cs : List CallCommand) → TextRunsAsDeclared m cs
+  pub exact : (cs : List CallCommand) → LeavesNothing m cs
+
+-- The declared transcript of a script. The glue text, read and run, gives the same and leaves nothing behind.
+pub record IsTranscriptOf (xs script text : List ℕ) : Type 0 where
+  pub m : Module
+  pub is_module : module_in xs ≡ Ok m
+  pub calls : HasCalls script
+  pub text_is : text ≡ declared_transcript m calls.cs
+  pub runs : TextRunsAsDeclared m calls.cs
+  pub exact : LeavesNothing m calls.cs
+
+-- That an XS file is taken.
+pub record IsAcceptance (xs text : List ℕ) : Type 0 where
+  pub taken : HasModule xs
+  pub text_is : text ≡ accepted
+
+-- The text that a command writes, by the bytes of its files.
+abbrev pub IsWritten : Command → (FileOf → List ℕ) → List ℕ → Type 0
+IsWritten (Compile file) bytes text = IsGlueOf (bytes Xs) text
+IsWritten (Call file script) bytes text = IsTranscriptOf (bytes Xs) (bytes Script) text
+IsWritten (Check file) bytes text = IsAcceptance (bytes Xs) text
+
+-- ---- the files of a desk that tells
+
+-- the desk holds these files with these bytes, within the limit
+abbrev pub AreHeld : Files → Command → (FileOf → List ℕ) → List FileOf → Type 0
+AreHeld files command bytes [] = Unit {0}
+AreHeld files command bytes (file ∷ more) = (files (name_of command file) ≡ Some (bytes file)) × (length (bytes file) ≤ FILE_LIMIT) × AreHeld files command bytes more
+
+-- The words are a command, its files are there within the limit, and all that it reads is taken.
+pub record IsGranted (words : List (List ℕ)) (files : Files) : Type 0 where
+  pub command : Command
+  pub bytes : FileOf → List ℕ
+  pub is_said : command_of words ≡ Some command
+  pub held : AreHeld files command bytes (files_of command)
+  pub taken : IsTaken command bytes
+
+-- What was written on `out`, by the files of the desk.
+pub record Wrote (words : List (List ℕ)) (files : Files) (out out' : Option (List ℕ)) : Type 0 where
+  pub command : Command
+  pub bytes : FileOf → List ℕ
+  pub text : List ℕ
+  pub is_said : command_of words ≡ Some command
+  pub held : AreHeld files command bytes (files_of command)
+  pub is_written : IsWritten command bytes text
+  pub out_is : out' ≡ appended out text
+
+-- What was written on `out`, by some bytes that were read.
+pub record WroteByReads (words : List (List ℕ)) (out out' : Option (List ℕ)) : Type 0 where
+  pub command : Command
+  pub bytes : FileOf → List ℕ
+  pub text : List ℕ
+  pub is_said : command_of words ≡ Some command
+  pub is_written : IsWritten command bytes text
+  pub out_is : out' ≡ appended out text
