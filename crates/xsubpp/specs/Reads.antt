@@ -1,14 +1,15 @@
 -- What the answer to a command owes to what a desk tells.
 use Rattle.std.specs.Option.{ForSome}
-use Rattle.std.specs.Prelude.{◌≡◌, ◌≢◌, ℕ, List, [], Option, Some, Result, Ok, Err}
+use Rattle.std.specs.Prelude.{◌≡◌, ◌≢◌, ℕ, List, [], Option, None, Some, Result, Ok, Err}
 use Rattle.xs_base.specs.Causes.{Rose}
 use Rattle.xs_base.specs.declared.fault.Refuse.{Refuse}
 use Rattle.xs_base.specs.declared.fault.Refuse.TheVariants as refuse
 use Rattle.xs_base.specs.Desks.{Files}
-use Rattle.xsubpp.specs.Answers.{Given, answer_by, answer_to, done_or_refused}
+use Rattle.xs_base.specs.Sinks.{AppendsPrefix}
+use Rattle.xsubpp.specs.Answers.{Given, answer_by, answer_to, done_or_refused, usage}
 use Rattle.xsubpp.specs.declared.answer.Answer.{Answer}
 use Rattle.xsubpp.specs.declared.status.Status.TheVariants.{Done, ReadFault, WriteFault, Memory, Usage}
-use Rattle.xsubpp.specs.Words.{Command}
+use Rattle.xsubpp.specs.Words.{Command, command_of}
 
 -- It is the answer by what the desk tells, or a read failed.
 pub record IsAnswerOf (told : Option Files) (command : Command) (before now : ℕ) (a : Answer) : Type 0 where
@@ -28,3 +29,14 @@ abbrev pub Finishes : Command → Result (List ℕ) Refuse → Answer → Type 0
 Finishes command (Ok text) a = a ≡ done_or_refused command (Ok text)
 Finishes command (Err (refuse.Fault fault)) a = a ≡ done_or_refused command (Err fault)
 Finishes command (Err refuse.Memory) a = ⊥
+
+-- It is the answer to such words, by what some reads gave.
+abbrev pub IsSaidByReads : Option Command → Answer → Type 0
+IsSaidByReads None a = a ≡ usage
+IsSaidByReads (Some command) a = IsByReads command a
+
+-- A prefix of such an answer was written on `out`.
+pub record PrefixByReads (words : List (List ℕ)) (out out' : Option (List ℕ)) : Type 0 where
+  pub a : Answer
+  pub is_answer : IsSaidByReads (command_of words) a
+  pub out_is : AppendsPrefix out out' a.out

@@ -6,6 +6,7 @@ ghost use Rattle.xs_base.specs.Sinks.{AppendsPrefix, appended};
 ghost use Rattle.xs_call.specs.Job.{EachTextLeavesNothing, EachTextRunsAsDeclared};
 ghost use Rattle.xsubpp.specs.Answers.{Ends, EndsByReads, IsStatus, answer, usage};
 ghost use Rattle.xsubpp.specs.Lacking.{LacksFile};
+ghost use Rattle.xsubpp.specs.Reads.{PrefixByReads};
 ghost use Rattle.xsubpp.specs.Words.{command_of};
 ghost use Rattle.xsubpp.specs.Written.{IsGranted, Wrote, WroteByReads};
 
@@ -50,6 +51,9 @@ pub fn xsubpp<D: Desk, O: Sink, E: Sink>(
     ensures missing_by_reads { result ≡ Status.Missing →
         EndsByReads words.now Status.Missing (O.told out.old) (O.told out.new) (E.told err.old) (E.told err.new) }
 
+    ensures read_fault_by_reads { result ≡ Status.ReadFault →
+        EndsByReads words.now Status.ReadFault (O.told out.old) (O.told out.new) (E.told err.old) (E.told err.new) }
+
     // The words alone decide on this one.
     ensures usage { result ≡ Status.Usage → (command_of words.now ≡ None)
         × Ends usage Status.Usage (O.told out.old) (O.told out.new) (E.told err.old) (E.told err.new) }
@@ -64,6 +68,7 @@ pub fn xsubpp<D: Desk, O: Sink, E: Sink>(
     ensures untouched { result ≢ Status.Done → result ≢ Status.WriteFault → O.told out.new ≡ O.told out.old }
     ensures prefix { result ≡ Status.WriteFault → ForSome (D.files desk.old) (λ files.
         AppendsPrefix (O.told out.old) (O.told out.new) (answer words.now files).out) }
+    ensures prefix_by_reads { result ≡ Status.WriteFault → PrefixByReads words.now (O.told out.old) (O.told out.new) }
     ensures memory { result ≡ Status.Memory → E.told err.new ≡ E.told err.old }
 
     // Where no edge failed, the status is the definition's, if memory was found.

@@ -1,7 +1,9 @@
-use Rattle.std.proofs.Common.{inl, inr, ap, subst, ◌∙◌}
+use Rattle.std.proofs.Common.{inl, inr, ap, subst, sym, refl, ◌∙◌}
 use Rattle.xs_base.specs.Sinks.{appended, AppendsPrefix}
 use Rattle.xs_call.proofs.Join.{text_leaves_nothing, text_runs}
-use Rattle.xsubpp.specs.declared.status.Status.TheVariants.{Done, Refused, Missing}
+use Rattle.xsubpp.specs.declared.status.Status.TheVariants.{Done, Refused, Missing, ReadFault}
+use Rattle.xsubpp.specs.Answers.{usage}
+use Rattle.xsubpp.specs.Reads.{IsSaidByReads}
 use Rattle.xsubpp.specs.Words.{said}
 use Rattle.xsubpp.proofs.Ending.{as_status, complete, decided, decided_usage, ends, ends_by, no_command, prefix, untouched}
 use Rattle.xsubpp.proofs.FilesTold.{lacks_file_where, missing}
@@ -80,6 +82,33 @@ returns-in-Ok-clause-missing_by_reads g c is =
       ends = ends_by c.in-Ok.a _ Missing _ _ _ _ _ c.in-Ok.ensures.reads.1 c.finish-in-Ok.ensures.status
           (λ e. c.finish-in-Ok.ensures.out e ∙ ap (appended _) c.as_slice.ensures)
           (λ e. c.finish-in-Ok.ensures.err e ∙ ap (appended _) c.as_slice-in-Ok.ensures) (λ e. cc) is;
+    }
+
+pub returns-in-Ok-clause-read_fault_by_reads : goal.returns-in-Ok-clause-read_fault_by_reads
+returns-in-Ok-clause-read_fault_by_reads g c is =
+    record {
+      command = said c.in-Some.command;
+      given = c.in-Ok.ensures.reads.0;
+      is_said = c.in-Some.ensures;
+      ends = ends_by c.in-Ok.a _ ReadFault _ _ _ _ _ c.in-Ok.ensures.reads.1 c.finish-in-Ok.ensures.status
+          (λ e. c.finish-in-Ok.ensures.out e ∙ ap (appended _) c.as_slice.ensures)
+          (λ e. c.finish-in-Ok.ensures.err e ∙ ap (appended _) c.as_slice-in-Ok.ensures) (λ e. cc) is;
+    }
+
+pub returns-in-Ok-clause-prefix_by_reads : goal.returns-in-Ok-clause-prefix_by_reads
+returns-in-Ok-clause-prefix_by_reads g c is =
+    record {
+      a = c.in-Ok.a;
+      is_answer = subst (λ o. IsSaidByReads o c.in-Ok.a) (sym c.in-Some.ensures) c.in-Ok.ensures.reads;
+      out_is = subst (AppendsPrefix _ _) c.as_slice.ensures c.finish-in-Ok.ensures.prefix;
+    }
+
+pub returns-in_default-clause-prefix_by_reads : goal.returns-in_default-clause-prefix_by_reads
+returns-in_default-clause-prefix_by_reads g c is =
+    record {
+      a = usage;
+      is_answer = subst (λ o. IsSaidByReads o usage) (sym c.in_default.ensures) refl;
+      out_is = c.finish.ensures.prefix;
     }
 
 pub returns-in-Ok-clause-decided : goal.returns-in-Ok-clause-decided
