@@ -5,3 +5,6 @@ pub mod Lines
 pub mod InMemory
 pub mod Reading
 pub mod Scanning
+pub mod Names
+pub mod Readers
+pub mod Runs

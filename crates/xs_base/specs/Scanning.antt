@@ -29,13 +29,7 @@ is_identifier (b ∷ bs) = begins_word b && list_all is_word_byte bs
 
 -- a text of blanks alone
 abbrev pub is_blank_line : List ℕ → Bool
-is_blank_line [] = true
-is_blank_line (b ∷ bs) = if is_blank b then is_blank_line bs else false
-
--- the text from its first byte on that is no blank
-abbrev pub behind_blanks : List ℕ → List ℕ
-behind_blanks [] = []
-behind_blanks (b ∷ bs) = if is_blank b then behind_blanks bs else b ∷ bs
+is_blank_line text = list_all is_blank text
 
 -- what stands behind a byte that the text begins with
 abbrev pub after_byte : ℕ → List ℕ → Option (List ℕ)

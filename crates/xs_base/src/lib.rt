@@ -11,7 +11,9 @@ mod items;
 mod mem_desk;
 mod mem_sink;
 mod memory;
+mod names;
 mod place;
+mod runs;
 mod scanning;
 mod sink;
 
@@ -24,9 +26,10 @@ pub use items::Items;
 pub use mem_desk::{HeldFile, MemDesk};
 pub use mem_sink::MemSink;
 pub use memory::Memory;
+pub use names::{NameByte, is_among, is_identifier, is_qualified_name, qualified_names_are_joined};
 pub use place::{FileOf, Line, Span};
+pub use runs::{ByteClass, are_all, begins_with_class, behind_blanks, cut_run, is_blank_line};
 pub use scanning::{
-    after_byte, after_word, are_digits, begins_word, behind_blanks, digits_value, is_blank,
-    is_blank_line, is_digit, is_identifier, is_letter, is_word_byte,
+    after_byte, after_word, begins_word, digits_value, is_blank, is_digit, is_letter, is_word_byte,
 };
 pub use sink::{Sink, SinkFault, put_all};

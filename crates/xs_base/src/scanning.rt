@@ -1,5 +1,4 @@
 //! The bytes of words, digits and blanks, and what stands in front of a text.
-ghost use Rattle.std.specs.List.{list_all};
 ghost use Rattle.std.specs.Prelude.{◌≡◌, ◌^◌, ◌≤◌, IfNone, IfSome, MatchOption, None, Some};
 ghost use Rattle.xs_base.specs.Scanning as spec;
 
@@ -38,48 +37,6 @@ pub fn is_word_byte(b: u8) -> bool
     begins_word(b) || is_digit(b)
 }
 
-fn are_word_bytes(text: &[u8]) -> bool
-    ensures { result ≡ list_all spec.is_word_byte text.now }
-{
-    text.iter().all(|b| is_word_byte(*b))
-}
-
-/// Whether a text is an identifier: word bytes, one at least, of which the first is no digit (C standard).
-pub fn is_identifier(text: &[u8]) -> bool
-    ensures { result ≡ spec.is_identifier text.now }
-{
-    match text {
-        [] => false,
-        [first, rest @ ..] => begins_word(*first) && are_word_bytes(rest),
-    }
-}
-
-/// Whether a text has blanks alone.
-pub fn is_blank_line(text: &[u8]) -> bool
-    ensures { result ≡ spec.is_blank_line text.now }
-{
-    for b in text {
-        if !is_blank(*b) {
-            return false;
-        }
-    }
-    true
-}
-
-/// The text from its first byte on that is no blank.
-pub fn behind_blanks(text: &[u8]) -> &[u8]
-    ensures { result.now ≡ spec.behind_blanks text.now }
-{
-    let mut rest = text;
-    while let [b, more @ ..] = rest {
-        if !is_blank(*b) {
-            return rest;
-        }
-        rest = more;
-    }
-    rest
-}
-
 /// What stands behind a byte, where the text begins with it.
 pub fn after_byte(byte: u8, text: &[u8]) -> Option<&[u8]>
     ensures { MatchOption result (spec.after_byte byte text.now ≡ None) (λ rest. spec.after_byte byte text.now ≡ Some rest.now) }
@@ -99,13 +56,6 @@ pub fn after_word<'a>(word: &[u8], text: &'a [u8]) -> Option<&'a [u8]>
         rest = after_byte(*byte, rest)?;
     }
     Some(rest)
-}
-
-/// Whether a text has digits alone.
-pub fn are_digits(text: &[u8]) -> bool
-    ensures { result ≡ list_all spec.is_digit text.now }
-{
-    text.iter().all(|b| is_digit(*b))
 }
 
 /// The value of decimal digits, if it has 64 bits.

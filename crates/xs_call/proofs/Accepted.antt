@@ -2,16 +2,16 @@
 use Rattle.std.proofs.Common.{◌≡◌, ℕ, suc, ℤ, ◌+◌, ◌≤◌, arith, Bool, true, false, List, [], ◌∷◌, ◌++◌, map, length, Some, None, refl, sym, ap, subst, ◌∙◌, append_assoc, append-nil, length-append}
 use Rattle.std.proofs.lemmas.Bool.Decides.{nat_tests}
 use Rattle.std.specs.Prelude.{◌==◌, Result, Ok, Err}
-use Rattle.xs_machine.specs.declared.api.Frame.{Frame}
-use Rattle.xs_machine.specs.declared.api.Operand.{Operand}
-use Rattle.xs_machine.specs.declared.api.Registered.{Registered}
+use Rattle.xs_api.specs.declared.api.Frame.{Frame}
+use Rattle.xs_api.specs.declared.api.Operand.{Operand}
+use Rattle.xs_api.specs.declared.api.Registered.{Registered}
 use Rattle.xs_machine.specs.declared.machine.Outcome.{Outcome}
 use Rattle.xs_machine.specs.declared.machine.Outcome.TheVariants as outcome
 use Rattle.xs_ccheck.specs.Functions.{function_at}
 use Rattle.xs_machine.specs.Machine.{Mach, called, is_over}
 use Rattle.xs_ccheck.specs.Tree.{Code}
-use Rattle.xs_machine.specs.World.{Cells, World, live_of, registered}
-use Rattle.xs_machine.specs.World as machine
+use Rattle.xs_api.specs.World.{Cells, World, live_of, registered}
+use Rattle.xs_api.specs.World as machine
 use Rattle.xs_values.proofs.Wrapping.{wrapped_value-held}
 use Rattle.xs_values.specs.declared.kind.Kind.TheVariants.{I32, I64}
 use Rattle.xs_values.specs.declared.plain.Plain.TheVariants.{Undef, Int}

@@ -1,19 +1,21 @@
 -- The arguments of a call, made one behind the other.
-use Rattle.std.proofs.Common.{◌≡◌, ◌≢◌, ℤ, ℕ, Bool, true, false, cond, List, [], ◌∷◌, ◌++◌, length, None, Some, Result, Ok, Err, IfOk, OnOk, append-nil, refl, sym, ap, ◌∙◌, subst}
+use Rattle.std.proofs.Common.{◌≡◌, ◌≢◌, ℤ, pos, ℕ, ◌+◌, ◌<◌, Bool, true, false, cond, List, [], ◌∷◌, ◌++◌, drop, length, None, Some, Result, Ok, Err, IfOk, OnOk, append-nil, refl, sym, ap, ◌∙◌, subst}
+use Rattle.std.proofs.Math.ListN.{get_or}
+use Rattle.std.proofs.lemmas.List.{drop_more}
 use Rattle.std.specs.Prelude.{if◌then◌else◌}
-use Rattle.xs_call.specs.Running.{Made, AllMade, NotMade, args_made, calls_told, end_of, go_on, told_call, told_call_with, told_end, with_argument, with_name}
-use Rattle.xs_machine.specs.declared.api.Operand.TheVariants.{Scalar}
-use Rattle.xs_machine.specs.declared.api.Frame.{Frame}
-use Rattle.xs_machine.specs.declared.api.Abrupt.TheVariants.{Traps}
-use Rattle.xs_machine.specs.Rows.{new_mortal, trapped}
-use Rattle.xs_machine.specs.State.{Gives, Ends}
-use Rattle.xs_machine.specs.World.{World, may_make}
+use Rattle.xs_call.specs.Running.{Made, AllMade, NotMade, args_made, end_of, told_call, told_call_with, told_end, with_argument, with_name}
+use Rattle.xs_api.specs.declared.api.Operand.TheVariants.{Scalar}
+use Rattle.xs_api.specs.declared.api.Frame.{Frame}
+use Rattle.xs_api.specs.declared.api.Abrupt.TheVariants.{Traps}
+use Rattle.xs_api.specs.Rows.{new_mortal, trapped}
+use Rattle.xs_api.specs.Effects.{Gives, Ends}
+use Rattle.xs_api.specs.World.{World, may_make}
 use Rattle.xs_machine.specs.Machine.{Mach, called}
 use Rattle.xs_machine.specs.Views.{MakesArgument, with_world}
-use Rattle.xs_machine.specs.declared.api.Stop.{Stop}
-use Rattle.xs_machine.specs.declared.api.Stop.TheVariants as stop
+use Rattle.xs_api.specs.declared.api.Stop.{Stop}
+use Rattle.xs_api.specs.declared.api.Stop.TheVariants as stop
 use Rattle.xs_call.specs.Runs.{IsTold, MakesArguments}
-use Rattle.xs_call.specs.Transcript.{call_text}
+use Rattle.xs_call.specs.Transcript.{call_text, calls_told, go_on}
 use Rattle.xs_call.specs.declared.calls.CallCommand.{CallCommand}
 use Rattle.xs_call.specs.declared.running.Telling.{Telling}
 use Rattle.xs_call.specs.declared.running.TheConstants.{TURNS}
@@ -60,6 +62,10 @@ none_made z zs f w t e = stopped_by (may_make w.cells) (with_name (length w.cell
 
 -- ---- the turns of the loop
 
+-- the next value in front of those behind it
+pub next_told : (values : List ℤ) (i : ℕ) (names : List ℕ) (w : World) (start : Made) → i < length values → before names (args_made (drop i values) w) ≡ start → before names (args_made (get_or values i (pos 0) ∷ drop (i + 1) values) w) ≡ start
+next_told values i names w start here e = ap (λ zs. before names (args_made zs w)) (sym (drop_more values i (pos 0) here)) ∙ e
+
 pub more_told : (values zs : List ℤ) (z : ℤ) (names : List ℕ) (n : ℕ) (start old new : Mach World) → before names (args_made (z ∷ zs) old.state.store) ≡ args_made values start.state.store → MakesArgument (Int z) old (Ok n) new → before (names ++ n ∷ []) (args_made zs new.state.store) ≡ args_made values start.state.store
 more_told values zs z names n start old new e m =
     before_last names n (args_made zs new.state.store) ∙ ap (before names) (sym (one_made z zs old.state.frame old.state.store new.state.store n m.0)) ∙ e
@@ -98,13 +104,13 @@ call_told (Ok t) code c names head o start made at_end new ma ca he told some =
 
 -- ---- the calls of a script
 
-pub call_goes_on : (code : Code) (m new : Mach World) (c : CallCommand) (cs : List CallCommand) (t : Telling) → IsTold (told_call code m c) t new → t.goes_on ≡ true → calls_told code m (c ∷ cs) ≡ t.text ++ calls_told code new cs
+pub call_goes_on : (code : Code) (m new : Mach World) (c : CallCommand) (cs : List CallCommand) (t : Telling) → IsTold (told_call code m c) t new → t.goes_on ≡ true → calls_told (told_call code) m (c ∷ cs) ≡ t.text ++ calls_told (told_call code) new cs
 call_goes_on code m new c cs t h g =
-    ap (λ x. x ++ go_on (told_call code m c).next (λ next. calls_told code next cs)) (sym h.text_is)
-    ∙ ap (λ n. t.text ++ go_on n (λ next. calls_told code next cs)) (h.next_is ∙ ap (λ b. if b then Some new else None) g)
+    ap (λ x. x ++ go_on (told_call code m c).next (λ next. calls_told (told_call code) next cs)) (sym h.text_is)
+    ∙ ap (λ n. t.text ++ go_on n (λ next. calls_told (told_call code) next cs)) (h.next_is ∙ ap (λ b. if b then Some new else None) g)
 
-pub call_ends : (code : Code) (m new : Mach World) (c : CallCommand) (cs : List CallCommand) (t : Telling) → IsTold (told_call code m c) t new → t.goes_on ≡ false → calls_told code m (c ∷ cs) ≡ t.text
+pub call_ends : (code : Code) (m new : Mach World) (c : CallCommand) (cs : List CallCommand) (t : Telling) → IsTold (told_call code m c) t new → t.goes_on ≡ false → calls_told (told_call code) m (c ∷ cs) ≡ t.text
 call_ends code m new c cs t h g =
-    ap (λ x. x ++ go_on (told_call code m c).next (λ next. calls_told code next cs)) (sym h.text_is)
-    ∙ ap (λ n. t.text ++ go_on n (λ next. calls_told code next cs)) (h.next_is ∙ ap (λ b. if b then Some new else None) g)
+    ap (λ x. x ++ go_on (told_call code m c).next (λ next. calls_told (told_call code) next cs)) (sym h.text_is)
+    ∙ ap (λ n. t.text ++ go_on n (λ next. calls_told (told_call code) next cs)) (h.next_is ∙ ap (λ b. if b then Some new else None) g)
     ∙ append-nil t.text

@@ -3,18 +3,18 @@ use Rattle.std.proofs.Common.{◌≡◌, ℕ, zero, suc, ℤ, pos, ◌+◌, ◌-
 use Rattle.std.proofs.lemmas.Bool.Decides.{nat_tests}
 use Rattle.std.proofs.lemmas.Int.{ints}
 use Rattle.std.specs.Prelude.{◌==◌, slice_get, slice_index_or, slice_set, Ok, Err}
-use Rattle.xs_machine.specs.declared.api.Abrupt.{Abrupt}
-use Rattle.xs_machine.specs.declared.api.Abrupt.TheVariants.{Traps, Croaks, Returns}
-use Rattle.xs_machine.specs.declared.api.Frame.{Frame}
-use Rattle.xs_machine.specs.declared.api.Operand.{Operand}
-use Rattle.xs_machine.specs.declared.api.Operand.TheVariants.{Unset, Num, Scalar, Void}
-use Rattle.xs_machine.specs.declared.api.Registered.{Registered}
-use Rattle.xs_machine.specs.declared.heap.Cell.{Cell}
+use Rattle.xs_api.specs.declared.api.Abrupt.{Abrupt}
+use Rattle.xs_api.specs.declared.api.Abrupt.TheVariants.{Traps, Croaks, Returns}
+use Rattle.xs_api.specs.declared.api.Frame.{Frame}
+use Rattle.xs_api.specs.declared.api.Operand.{Operand}
+use Rattle.xs_api.specs.declared.api.Operand.TheVariants.{Unset, Num, Scalar, Void}
+use Rattle.xs_api.specs.declared.api.Registered.{Registered}
+use Rattle.xs_api.specs.declared.heap.Cell.{Cell}
 use Rattle.xs_machine.specs.Cmean.{meaning, meaning_all}
-use Rattle.xs_machine.specs.Rows.{counted_rows, usage_text}
+use Rattle.xs_api.specs.Rows.{counted_rows, usage_text}
 use Rattle.xs_machine.specs.State.{State, Out, Stop, Done, calculate}
 use Rattle.xs_ccheck.specs.Tree.{SvNewMortal, SvSetIv, StSet, XsReturn, Tree, Variable, Convert, Declare}
-use Rattle.xs_machine.specs.World.{Cells, World, cell_at, is_read_only, may_make}
+use Rattle.xs_api.specs.World.{Cells, World, cell_at, is_read_only, may_make}
 use Rattle.xs_values.specs.declared.kind.Kind.TheVariants.{I32, I64}
 use Rattle.xs_values.specs.declared.plain.Plain.TheVariants.{Undef, Int}
 use Rattle.xs_values.specs.declared.trap.Trap.{Trap}

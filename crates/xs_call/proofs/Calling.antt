@@ -3,19 +3,19 @@ use Rattle.std.proofs.Common.{◌≡◌, ℕ, suc, ℤ, ◌+◌, ◌-◌, ◌<�
 use Rattle.std.proofs.lemmas.Bool.Decides.{nat_tests}
 use Rattle.std.specs.Prelude.{◌==◌, nat_lt, Ok, Err}
 use Rattle.xs_machine.proofs.Ends.{run_over, stays}
-use Rattle.xs_machine.specs.declared.api.Frame.{Frame}
-use Rattle.xs_machine.specs.declared.api.Operand.{Operand}
-use Rattle.xs_machine.specs.declared.api.Operand.TheVariants.{Unset, Num, Scalar}
-use Rattle.xs_machine.specs.declared.api.Registered.{Registered}
+use Rattle.xs_api.specs.declared.api.Frame.{Frame}
+use Rattle.xs_api.specs.declared.api.Operand.{Operand}
+use Rattle.xs_api.specs.declared.api.Operand.TheVariants.{Unset, Num, Scalar}
+use Rattle.xs_api.specs.declared.api.Registered.{Registered}
 use Rattle.xs_machine.specs.declared.machine.Outcome.{Outcome}
 use Rattle.xs_machine.specs.declared.machine.Outcome.TheVariants as outcome
 use Rattle.xs_machine.specs.Cmean.{meaning}
 use Rattle.xs_ccheck.specs.Functions.{function_at}
 use Rattle.xs_machine.specs.Machine.{Mach, halt, run, run_on, Enter, Leave, begun_at, called, call_meaning, call_over, is_over, left, undefined_text, with_call}
-use Rattle.xs_machine.specs.Rows.{counted_rows, usage_text}
+use Rattle.xs_api.specs.Rows.{counted_rows, usage_text}
 use Rattle.xs_machine.specs.State.{State}
 use Rattle.xs_ccheck.specs.Tree.{Code}
-use Rattle.xs_machine.specs.World.{Cells, World, Clean, depths_of, is_read_only, may_make, registered, sweep}
+use Rattle.xs_api.specs.World.{Cells, World, Clean, depths_of, is_read_only, may_make, registered, sweep}
 use Rattle.xs_values.specs.declared.kind.Kind.TheVariants.{I32, I64}
 use Rattle.xs_values.specs.declared.trap.Trap.{Trap}
 use Rattle.xs_values.specs.declared.trap.Trap.TheVariants.{Large}

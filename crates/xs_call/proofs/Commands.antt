@@ -1,20 +1,20 @@
 -- One command: both definitions tell the same of it, and leave what fits together.
-use Rattle.std.proofs.Common.{◌≡◌, ℕ, ℤ, ◌+◌, ◌≤◌, arith, false, List, [], ◌++◌, length, Option, Some, None, refl, sym, ap, subst, ◌∙◌, append_assoc, length-append}
+use Rattle.std.proofs.Common.{◌≡◌, ℕ, ℤ, ◌+◌, ◌≤◌, arith, false, List, [], ◌++◌, length, Option, Some, None, refl, sym, ap, subst, ◌∙◌, length-append}
 use Rattle.std.specs.Prelude.{⊤}
-use Rattle.xs_machine.specs.declared.api.Frame.{Frame}
-use Rattle.xs_machine.specs.declared.api.Operand.{Operand}
-use Rattle.xs_machine.specs.declared.api.Registered.{Registered}
+use Rattle.xs_api.specs.declared.api.Frame.{Frame}
+use Rattle.xs_api.specs.declared.api.Operand.{Operand}
+use Rattle.xs_api.specs.declared.api.Registered.{Registered}
 use Rattle.xs_machine.specs.declared.machine.Outcome.{Outcome}
 use Rattle.xs_machine.specs.declared.machine.Outcome.TheVariants as outcome
 use Rattle.xs_machine.specs.Machine.{Mach, is_over}
-use Rattle.xs_machine.specs.World.{Cells, World, live_of}
+use Rattle.xs_api.specs.World.{Cells, World, live_of}
 use Rattle.xs_values.specs.declared.trap.Trap.{Trap}
 use Rattle.xs_call.specs.declared.calls.CallCommand.{CallCommand}
 use Rattle.xs_call.specs.Meaning as declared
 use Rattle.xs_call.specs.Meaning.{Store, show_in}
 use Rattle.xs_call.specs.Running as running
 use Rattle.xs_call.specs.Running.{end_of, show_cell}
-use Rattle.xs_call.specs.Transcript.{Returned, Croaked, Trapped, call_text, end_lines, live_line}
+use Rattle.xs_call.specs.Transcript.{Returned, Croaked, Trapped, Told, call_text, end_lines, live_line}
 use Rattle.xs_call.proofs.Calling.{EndsAs, resting}
 use Rattle.xs_call.proofs.Statements.{world}
 use Rattle.xs_call.proofs.Temporaries.{made, gone, newest, all_swept, length-gone, none_left}
@@ -40,12 +40,12 @@ SameNext names None (Some s) = ⊥
 SameNext names (Some m) None = ⊥
 
 -- both tell the same, and both go on or neither does
-pub record SameTold (names : List Registered) (a : running.Told) (b : declared.Told) : Type 0 where
+pub record SameTold (names : List Registered) (a : Told (Mach World)) (b : Told Store) : Type 0 where
   pub text : a.text ≡ b.text
   pub next : SameNext names a.next b.next
 
 -- what a command tells behind a call that ended so
-pub told_behind : (names : List Registered) (c : CallCommand) (args : List ℕ) (m : Mach World) (o : Outcome) (w : World) (b : declared.Told) → EndsAs m o w → ((vars : List Operand) (f : Frame) (turns : ℕ) → SameTold names (running.told_end (call_text c) args (end_of o) (resting o vars f w turns)) b) → SameTold names (running.told_end (call_text c) args (end_of m.stopped) m) b
+pub told_behind : (names : List Registered) (c : CallCommand) (args : List ℕ) (m : Mach World) (o : Outcome) (w : World) (b : Told Store) → EndsAs m o w → ((vars : List Operand) (f : Frame) (turns : ℕ) → SameTold names (running.told_end (call_text c) args (end_of o) (resting o vars f w turns)) b) → SameTold names (running.told_end (call_text c) args (end_of m.stopped) m) b
 told_behind names c args m o w b e f =
     let P : Mach World → Type 0 = λ x. SameTold names (running.told_end (call_text c) args (end_of x.stopped) x) b in
     subst P (sym e.is) (f e.vars e.frame e.turns)
@@ -84,11 +84,9 @@ module _ (names : List Registered) (c : CallCommand) (args : List ℕ) (vars : L
     few = omega (arith, left.few, length-append h (gone zs), length-gone zs);
   }
 
-  text_same : (lines others : List ℕ) → lines ≡ others → (call_text c ++ lines) ++ live_line (live_of (h ++ gone zs)) 0 0 ≡ call_text c ++ (others ++ live_line 0 0 0)
+  text_same : (lines others : List ℕ) → lines ≡ others → (call_text c ++ lines) ++ live_line (live_of (h ++ gone zs)) 0 0 ≡ (call_text c ++ others) ++ live_line 0 0 0
   text_same lines others e =
-      ap (λ n. (call_text c ++ lines) ++ live_line n 0 0) (none_left h zs left.long left.none)
-      ∙ ap (λ l. (call_text c ++ l) ++ live_line 0 0 0) e
-      ∙ append_assoc (call_text c) others (live_line 0 0 0)
+      ap (λ n. (call_text c ++ lines) ++ live_line n 0 0) (none_left h zs left.long left.none) ∙ ap (λ l. (call_text c ++ l) ++ live_line 0 0 0) e
 
   pub returned_told : (items : List ℕ) → end_lines (show_cell (h ++ made zs)) args (Returned items) ≡ end_lines (show_in s) args (Returned items) → SameTold names (running.told_end (call_text c) args (Returned items) (resting (outcome.Returned items) vars f behind turns)) (declared.told_end c args (Returned items) s)
   returned_told items e =

@@ -1,16 +1,16 @@
 -- Every call and every command: both definitions tell the same.
-use Rattle.std.proofs.Common.{◌≡◌, ℕ, suc, ℤ, ◌+◌, ◌<◌, ◌≤◌, arith, Bool, true, false, List, [], ◌∷◌, ◌++◌, map, length, Option, Some, None, refl, sym, ap, subst, append_assoc, length-append}
+use Rattle.std.proofs.Common.{◌≡◌, ℕ, suc, ℤ, ◌+◌, ◌<◌, ◌≤◌, arith, Bool, true, false, List, [], ◌++◌, map, length, Option, Some, None, refl, sym, ap, subst, length-append}
 use Rattle.std.proofs.lemmas.Bool.Decides.{nat_tests}
-use Rattle.std.specs.Prelude.{◌==◌, nat_le, codes, slice_get}
-use Rattle.xs_machine.specs.declared.api.Frame.{Frame}
-use Rattle.xs_machine.specs.declared.api.Operand.{Operand}
-use Rattle.xs_machine.specs.declared.api.Registered.{Registered}
+use Rattle.std.specs.Prelude.{◌==◌, nat_le, slice_get}
+use Rattle.xs_api.specs.declared.api.Frame.{Frame}
+use Rattle.xs_api.specs.declared.api.Operand.{Operand}
+use Rattle.xs_api.specs.declared.api.Registered.{Registered}
 use Rattle.xs_machine.specs.declared.machine.Outcome.{Outcome}
 use Rattle.xs_machine.specs.declared.machine.Outcome.TheVariants as outcome
 use Rattle.xs_machine.specs.Machine.{Mach, called, is_over, undefined_text}
-use Rattle.xs_machine.specs.Rows.{usage_text}
+use Rattle.xs_api.specs.Rows.{usage_text}
 use Rattle.xs_ccheck.specs.Tree.{Code}
-use Rattle.xs_machine.specs.World.{Cells, World, live_of, registered}
+use Rattle.xs_api.specs.World.{Cells, World, live_of, registered}
 use Rattle.xs_values.specs.declared.plain.Plain.TheVariants.{Int}
 use Rattle.xs_values.specs.declared.trap.Trap.TheVariants.{Large}
 use Rattle.xs_iface.specs.declared.xsub.Module.{Module}
@@ -31,10 +31,6 @@ use Rattle.xs_call.proofs.Named.{found, registered_on}
 use Rattle.xs_call.proofs.Shown.{arg_lines-all}
 use Rattle.xs_call.proofs.Statements.{world}
 use Rattle.xs_call.proofs.Temporaries.{made, newest, all_made, not_made}
-
--- the text of a usage croak
-same_usage : (called text : List ℕ) → usage_text called text ≡ codes "Usage: " ++ called ++ 40 ∷ text ++ 41 ∷ []
-same_usage called text = ap (λ l. l ++ 41 ∷ []) (append_assoc (codes "Usage: " ++ called) (codes "(") text)
 
 at_most : (n : ℕ) → nat_le n 1000000 ≡ true → n ≤ 1000000
 at_most n e = grind (arith, nat_tests)
@@ -90,7 +86,7 @@ module _ (code : Code) (m : Module) (good : IsSumModule m) (glue : code.function
 
       usage_same : (x : Xsub) (i : ℕ) → IsSumXsub x → slice_get code.functions i ≡ Some (xsub_function x) → registered c.sub names ≡ Some i → (length args == length x.params) ≡ false → Same (declared.xsub_ended c.sub x store args)
       usage_same x i ok here e d =
-          let says : declared.xsub_ended c.sub x store args ≡ record { how = Croaked (usage_text c.sub (joined_names x.params)); store = store } = rw d (ap (λ text. record { how = Croaked text; store = store }) (sym (same_usage c.sub (joined_names x.params)))) in
+          let says : declared.xsub_ended c.sub x store args ≡ record { how = Croaked (usage_text c.sub (joined_names x.params)); store = store } = rw d refl in
           subst Same (sym says) (croak_same (usage_text c.sub (joined_names x.params)) (usage_called code c.sub args temps (h ++ made zs) names o vars f t0 goes x i e here (omega (arith, ok.few_params)) turns held d))
 
       by_arguments : (x : Xsub) (i : ℕ) → IsSumXsub x → slice_get code.functions i ≡ Some (xsub_function x) → registered c.sub names ≡ Some i → (b : Bool) → (length args == length x.params) ≡ b → Same (declared.xsub_ended c.sub x store args)

@@ -1,28 +1,29 @@
 -- The text that is written for an XS file, read and typed, is the code that the law is about.
 use Rattle.std.proofs.Common.{◌≡◌, ℕ, Bool, true, false, List, [], ◌∷◌, Option, None, Some, refl, sym, ap, ◌∙◌, subst}
+use Rattle.std.specs.Option.{option_map, option_or}
 use Rattle.std.specs.Prelude.{Result, Ok, Err, if◌then◌else◌}
 use Rattle.xs_base.specs.Reading.{◌>>=◌, Gives}
 use Rattle.xs_base.specs.declared.fault.Fault.{Fault}
 use Rattle.xs_base.specs.declared.fault.Refuse.{Refuse}
-use Rattle.xs_base.specs.declared.place.FileOf.TheVariants.{Text}
+use Rattle.xs_base.specs.declared.place.FileOf.TheVariants.{Text, Xs}
 use Rattle.xs_base.specs.declared.place.Line.{Line}
 use Rattle.xs_csyn.specs.Files.{file_of}
-use Rattle.xs_csyn.specs.Lexemes.{is_passed_line}
+use Rattle.xs_ctok.specs.Lexemes.{is_passed_line}
 use Rattle.xs_csyn.specs.Tree.{FileTree}
 use Rattle.xs_iface.proofs.Sums.{module_gives_sums}
 use Rattle.xs_iface.specs.declared.xsub.Module.{Module}
-use Rattle.xs_iface.specs.Iface.{collect, draft_of, first_fault, module_from, module_of, module_with, name_fault, unless_fault, xsub_of}
+use Rattle.xs_iface.specs.Iface.{collect, draft_of, first_fault, module_from, module_of, module_with, name_fault, xsub_of}
 use Rattle.xs_iface.specs.SumForm.{All, IsSumModule}
 use Rattle.xs_machine.specs.Machine.{loaded}
 use Rattle.xs_ccheck.specs.Typing.{typed_of}
 use Rattle.xs_script.specs.Expr.{Said}
 use Rattle.xs_script.specs.Script.{script_of}
-use Rattle.xs_sections.specs.Cut.{split_of}
+use Rattle.xs_sections.specs.Cut.{split_of, unless_fault}
 use Rattle.xs_sections.specs.declared.sections.Sections.{Sections}
 use Rattle.xs_stub.proofs.ReadBack.{reads_back}
 use Rattle.xs_stub.specs.Stub.{glue_text}
 use Rattle.xs_call.specs.declared.calls.CallCommand.{CallCommand}
-use Rattle.xs_call.specs.Built.{built, or_later, unbuilt_c_line, unbuilt_line, unbuilt_part, unless_unbuilt}
+use Rattle.xs_call.specs.Built.{built, not_built_in, unbuilt_c_line, unbuilt_line, unbuilt_part}
 use Rattle.xs_call.specs.Calls.{calls_said}
 use Rattle.xs_call.specs.GlueCode.{glue_code}
 use Rattle.xs_call.specs.Job.{EachFileGivesSums, EachTextLeavesNothing, EachTextRunsAsDeclared, call_of, module_in, text_transcript}
@@ -56,11 +57,11 @@ all_passed (line ∷ lines) h = by (is_passed_line line.text) refl (all_passed l
     by true e rec none = (e, rec none)
     by false e rec none = absurd cc
 
-none_first : (a b : Option ℕ) → or_later a b ≡ None → a ≡ None
+none_first : (a b : Option ℕ) → option_or a b ≡ None → a ≡ None
 none_first None b h = refl
 none_first (Some line) b h = absurd cc
 
-none_unbuilt : (o : Option ℕ) (u : Unit {0}) → unless_unbuilt o ≡ Ok u → o ≡ None
+none_unbuilt : (o : Option ℕ) (u : Unit {0}) → unless_fault (option_map (not_built_in Xs) o) tt ≡ Ok u → o ≡ None
 none_unbuilt None u h = refl
 none_unbuilt (Some line) u h = absurd cc
 

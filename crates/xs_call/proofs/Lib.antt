@@ -2,7 +2,6 @@ pub mod Arguments
 pub mod TypedNames
 pub mod TypedStatements
 pub mod Typed
-pub mod Joining
 pub mod Numbers
 pub mod Statements
 pub mod Scalars

@@ -1,13 +1,16 @@
 -- The names that the boot registers, and which function and which XSUB a name finds.
 use Rattle.std.proofs.Common.{◌≡◌, ℕ, suc, ◌+◌, arith, Bool, true, false, cond, List, [], ◌∷◌, map, length, Option, Some, None, refl, sym, ap, subst, ◌∙◌}
+use Rattle.std.proofs.lemmas.Bool.{or_parts}
 use Rattle.std.proofs.lemmas.Slice.Eq.{bytes_eq-Decides}
 use Rattle.std.specs.List.{list_any}
-use Rattle.std.specs.Prelude.{slice_get, ◌||◌}
+use Rattle.std.specs.Option.{option_or}
+use Rattle.std.specs.Prelude.{slice_get}
 use Rattle.std.specs.Str.{bytes_eq}
-use Rattle.xs_machine.specs.declared.api.Registered.{Registered}
+use Rattle.xs_api.specs.declared.api.Registered.{Registered}
 use Rattle.xs_ccheck.specs.Functions.{boot_from}
 use Rattle.xs_ccheck.specs.Tree.{Function}
-use Rattle.xs_machine.specs.World.{registered}
+use Rattle.xs_api.specs.World.{registered}
+use Rattle.xs_iface.proofs.Noted.{same_both_ways}
 use Rattle.xs_iface.specs.declared.xsub.Xsub.{Xsub}
 use Rattle.xs_iface.specs.SumForm.{All, Differ, IsSumXsub}
 use Rattle.xs_call.specs.GlueCode.{functions_on, xsub_function}
@@ -23,44 +26,28 @@ abbrev place_named : List ℕ → ℕ → List Xsub → Option ℕ
 place_named name n [] = None
 place_named name n (x ∷ xs) = cond (bytes_eq x.full name) (Some n) (place_named name (n + 1) xs)
 
--- a place, or else another
-abbrev first_of_both : Option ℕ → Option ℕ → Option ℕ
-first_of_both None other = other
-first_of_both (Some n) other = Some n
-
-neither : (a b : Bool) → (a || b) ≡ false → (a ≡ false) × (b ≡ false)
-neither true b e = cc
-neither false b e = (refl, e)
-
-swapped : (x y : List ℕ) → bytes_eq x y ≡ false → bytes_eq y x ≡ false
-swapped x y h = by (bytes_eq y x) refl
-  where
-    by : (b : Bool) → bytes_eq y x ≡ b → b ≡ false
-    by true e = let back : bytes_eq x y ≡ true = (bytes_eq-Decides x y).1 (sym ((bytes_eq-Decides y x).0 e)) in absurd cc
-    by false e = refl
-
 -- a name that none of these has
 absent : (name : List ℕ) (n : ℕ) (xs : List Xsub) → list_any (λ later. bytes_eq name later) (map (λ x. x.full) xs) ≡ false → place_named name n xs ≡ None
 absent name n [] h = refl
 absent name n (x ∷ xs) h =
-    let both = neither (bytes_eq name x.full) (list_any (λ later. bytes_eq name later) (map (λ x. x.full) xs)) h in
-    rw (swapped name x.full both.0) (absent name (n + 1) xs both.1)
+    let both = or_parts (bytes_eq name x.full) (list_any (λ later. bytes_eq name later) (map (λ x. x.full) xs)) h in
+    rw (same_both_ways x.full name ∙ both.0) (absent name (n + 1) xs both.1)
 
 absent_by : (name full : List ℕ) (n : ℕ) (xs : List Xsub) → full ≡ name → list_any (λ later. bytes_eq full later) (map (λ x. x.full) xs) ≡ false → place_named name n xs ≡ None
 absent_by name full n xs e h = ap (λ l. place_named l n xs) (sym e) ∙ absent full n xs h
 
-one_of_both : (b : Bool) (n : ℕ) (later other : Option ℕ) → (b ≡ true → later ≡ None) → first_of_both later (cond b (Some n) other) ≡ first_of_both (cond b (Some n) later) other
-one_of_both true n later other f = ap (λ l. first_of_both l (Some n)) (f refl)
+one_of_both : (b : Bool) (n : ℕ) (later other : Option ℕ) → (b ≡ true → later ≡ None) → option_or later (cond b (Some n) other) ≡ option_or (cond b (Some n) later) other
+one_of_both true n later other f = ap (λ l. option_or l (Some n)) (f refl)
 one_of_both false n later other f = refl
 
 -- What is registered last under a name is the first XSUB of that name: no name stands twice.
-registered_as : (name : List ℕ) (n : ℕ) (xs : List Xsub) (names : List Registered) → Differ (map (λ x. x.full) xs) → registered name (registered_on n xs names) ≡ first_of_both (place_named name n xs) (registered name names)
+registered_as : (name : List ℕ) (n : ℕ) (xs : List Xsub) (names : List Registered) → Differ (map (λ x. x.full) xs) → registered name (registered_on n xs names) ≡ option_or (place_named name n xs) (registered name names)
 registered_as name n [] names d = refl
 registered_as name n (x ∷ xs) names d =
     registered_as name (n + 1) xs (record { name = x.full; function = n } ∷ names) d.1
     ∙ one_of_both (bytes_eq x.full name) n (place_named name (n + 1) xs) (registered name names) (λ e. absent_by name x.full (n + 1) xs ((bytes_eq-Decides x.full name).0 e) d.0)
 
-alone : (place : Option ℕ) → first_of_both place None ≡ place
+alone : (place : Option ℕ) → option_or place None ≡ place
 alone None = refl
 alone (Some n) = refl
 

@@ -1,6 +1,6 @@
 -- The lines that show arguments and items are the same where the cells and the store hold the same values.
 use Rattle.std.proofs.Common.{◌≡◌, ℕ, ℤ, ◌+◌, List, [], ◌∷◌, ◌++◌, map, length, None, refl, sym, ap, ◌∙◌, append_assoc, append-nil}
-use Rattle.xs_machine.specs.World.{Cells}
+use Rattle.xs_api.specs.World.{Cells}
 use Rattle.xs_values.specs.declared.plain.Plain.TheVariants.{Undef, Int}
 use Rattle.xs_call.specs.Meaning.{Store, names_from, show_in}
 use Rattle.xs_call.specs.Running.{cell_text, show_cell}

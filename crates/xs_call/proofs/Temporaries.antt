@@ -2,9 +2,9 @@
 use Rattle.std.proofs.Common.{◌≡◌, ℕ, suc, ℤ, ◌+◌, ◌-◌, ◌<◌, ◌≤◌, arith, Bool, true, false, cond, List, [], ◌∷◌, ◌++◌, length, drop, Some, None, refl, sym, ap, ◌∙◌, append_assoc, append-nil}
 use Rattle.std.proofs.lemmas.Bool.Decides.{nat_tests}
 use Rattle.std.proofs.lemmas.List.{drop-append-le}
-use Rattle.xs_machine.specs.declared.api.Registered.{Registered}
+use Rattle.xs_api.specs.declared.api.Registered.{Registered}
 use Rattle.xs_machine.specs.Machine.{runner_depths}
-use Rattle.xs_machine.specs.World.{Cells, World, Swept, Clean, Dirty, free_newest, is_read_only, is_uncounted, live_of, living, lower, may_make, sweep, then_swept, with_temps}
+use Rattle.xs_api.specs.World.{Cells, World, Swept, Clean, Dirty, free_newest, is_read_only, is_uncounted, live_of, living, lower, may_make, sweep, then_swept, with_temps}
 use Rattle.xs_values.specs.declared.trap.Trap.TheVariants.{Large}
 use Rattle.xs_call.specs.Meaning.{names_from}
 use Rattle.xs_call.specs.Running.{Made, AllMade, NotMade, args_made, with_name}

@@ -16,7 +16,8 @@ use Rattle.xs_ccheck.proofs.Unlined.{types_without_lines}
 use Rattle.xs_ccheck.specs.declared.resolve_names.Local.{Local}
 use Rattle.xs_ccheck.specs.Tree as code
 use Rattle.xs_ccheck.specs.Tree.{Entry, Function, Tree}
-use Rattle.xs_ccheck.specs.Typing.{Scope, behind_block, done, function, functions, is_boot_name, is_interface_word, item, item_name, perl, place_of, stmt, typed_of, variable_of}
+use Rattle.xs_ctok.specs.Words.{is_interface_word}
+use Rattle.xs_ccheck.specs.Typing.{Scope, behind_block, done, function, functions, is_boot_name, item, item_name, perl, place_of, stmt, typed_of, variable_of}
 use Rattle.xs_stub.specs.Intended.{boot_tree, declared_param, glue_tree, int_type, sv_pointer, work_of, xsub_tree}
 use Rattle.xs_call.specs.GlueCode.{block_of, boot_function, declarations, functions_on, glue_code, row_done, work, xsub_function}
 use Rattle.xs_call.proofs.TypedNames.{PlacedFrom, all_known, all_placed, differ_after, int_at, int_local, locals_from, no_param, no_retval, no_scalar, none_known, not_reserved, scalar_at, scalar_local}

@@ -1,61 +1,47 @@
 -- Names, as the types stage looks them up: the variables of an XSUB, and the functions of a file.
-use Rattle.std.proofs.Common.{◌≡◌, ℕ, zero, suc, ◌+◌, ◌<◌, ◌&&◌, ◌||◌, Bool, true, false, not, cond, List, [], ◌∷◌, ◌++◌, codes, map, length, slice_get, Option, Some, None, refl, sym, ap, ◌∙◌, arith}
+use Rattle.std.proofs.Common.{◌≡◌, ℕ, zero, suc, ◌+◌, ◌<◌, ◌||◌, Bool, true, false, not, cond, List, [], ◌∷◌, ◌++◌, codes, map, length, slice_get, Option, Some, None, refl, sym, ap, ◌∙◌, arith}
+use Rattle.std.proofs.lemmas.Bool.{and_parts, not-true, or_parts}
 use Rattle.std.proofs.lemmas.Slice.Eq.{bytes_eq-Decides}
 use Rattle.std.specs.List.{list_any}
 use Rattle.std.specs.Str.{bytes_eq}
-use Rattle.xs_csyn.proofs.Values.{is_among-fewer}
-use Rattle.xs_iface.specs.declared.words.TheConstants.{RESERVED}
+use Rattle.xs_base.specs.Names.{is_among}
+use Rattle.xs_ctok.proofs.Values.{is_among-fewer}
+use Rattle.xs_iface.proofs.Noted.{same_both_ways}
 use Rattle.xs_iface.specs.declared.xsub.Param.{Param}
 use Rattle.xs_base.specs.Scanning.{is_identifier}
 use Rattle.xs_iface.specs.SumForm.{All, Differ}
-use Rattle.xs_iface.specs.Words.{is_free, is_reserved}
+use Rattle.xs_iface.specs.Words.{is_free, is_reserved, reserved_words}
 use Rattle.xs_ccheck.specs.declared.code.ValueType.TheVariants.{Number, Scalar}
 use Rattle.xs_ccheck.specs.declared.resolve_names.Found.{Found}
 use Rattle.xs_ccheck.specs.declared.resolve_names.Local.{Local}
-use Rattle.xs_ccheck.specs.Typing.{interface_words, is_among, is_interface_word, place_from, variable_of}
+use Rattle.xs_ctok.specs.Words.{interface_words, is_interface_word}
+use Rattle.xs_ccheck.specs.Typing.{place_from, variable_of}
 use Rattle.xs_stub.specs.Stub.{name_or_nothing}
 use Rattle.xs_values.specs.declared.kind.Kind.TheVariants.{I32}
 
 -- ---- words
 
-abbrev reserved_words : List (List ℕ)
-reserved_words = map (λ word. word.now) RESERVED
-
-no_word : (word : List ℕ) → is_reserved word ≡ false → is_among reserved_words word ≡ false
-unfolding is_reserved
-no_word word h = h
-
-both_false : (a b : Bool) → (a || b) ≡ false → (a ≡ false) × (b ≡ false)
-both_false true b h = absurd cc
-both_false false b h = (refl, h)
-
 pub not_reserved : (word : List ℕ) → is_free word ≡ true → is_reserved word ≡ false
-not_reserved word h = by (is_identifier word) (is_reserved word) h
-  where
-    by : (a b : Bool) → (a && not b) ≡ true → b ≡ false
-    by true true h = absurd cc
-    by true false h = refl
-    by false b h = absurd cc
+not_reserved word h = not-true (is_reserved word) (and_parts (is_identifier word) (not (is_reserved word)) h).1
 
 pub same : (name : List ℕ) → bytes_eq name name ≡ true
 same name = (bytes_eq-Decides name name).1 refl
 
 pub no_interface_word : (word : List ℕ) → is_reserved word ≡ false → is_interface_word word ≡ false
-unfolding is_interface_word
-no_interface_word word h = is_among-fewer reserved_words interface_words word refl (no_word word h)
+unfolding is_interface_word reserved_words
+no_interface_word word h = is_among-fewer reserved_words interface_words word refl h
 
-flipped : (x y : List ℕ) → bytes_eq y x ≡ false → bytes_eq x y ≡ false
-flipped x y h = by (bytes_eq x y) refl
-  where
-    by : (b : Bool) → bytes_eq x y ≡ b → b ≡ false
-    by true e = let back : bytes_eq y x ≡ true = (bytes_eq-Decides y x).1 (sym ((bytes_eq-Decides x y).0 e)) in absurd cc
-    by false e = refl
+-- a word that is not reserved is another than one that is
+other_word : (taken word : List ℕ) → is_reserved word ≡ false → (is_among reserved_words word ≡ false → is_among (taken ∷ []) word ≡ false) → bytes_eq word taken ≡ false
+other_word taken word h fewer = same_both_ways word taken ∙ (or_parts (bytes_eq taken word) false (fewer h)).0
 
 pub no_retval : (word : List ℕ) → is_reserved word ≡ false → bytes_eq word (codes "RETVAL") ≡ false
-no_retval word h = flipped word (codes "RETVAL") (both_false (bytes_eq (codes "RETVAL") word) false (is_among-fewer reserved_words (codes "RETVAL" ∷ []) word refl (no_word word h))).0
+unfolding reserved_words
+no_retval word h = other_word (codes "RETVAL") word h (is_among-fewer reserved_words (codes "RETVAL" ∷ []) word refl)
 
 pub no_scalar : (word : List ℕ) → is_reserved word ≡ false → bytes_eq word (codes "RETVALSV") ≡ false
-no_scalar word h = flipped word (codes "RETVALSV") (both_false (bytes_eq (codes "RETVALSV") word) false (is_among-fewer reserved_words (codes "RETVALSV" ∷ []) word refl (no_word word h))).0
+unfolding reserved_words
+no_scalar word h = other_word (codes "RETVALSV") word h (is_among-fewer reserved_words (codes "RETVALSV" ∷ []) word refl)
 
 -- ---- variables
 
@@ -107,7 +93,7 @@ none_found name = refl
 known_behind : (v : Local) (all : List Local) (slot : ℕ) (ps : List Param) → list_any (λ later. bytes_eq v.name later) (map (λ p. p.name) ps) ≡ false → Known all slot ps → Known (v ∷ all) slot ps
 known_behind v all slot [] h k = tt
 known_behind v all slot (p ∷ ps) h k =
-    let each = both_false (bytes_eq v.name p.name) _ h in
+    let each = or_parts (bytes_eq v.name p.name) _ h in
     (passed_by v all p.name each.0 ∙ k.0, known_behind v all (slot + 1) ps each.1 k.1)
 
 -- The variables of parameters that differ are all found.
@@ -133,7 +119,7 @@ none_after (w ∷ all) v name h e = by (bytes_eq w.name name) refl (none_after a
 pub unknown_after : (all : List Local) (v : Local) (ps : List Param) → list_any (λ later. bytes_eq v.name later) (map (λ p. p.name) ps) ≡ false → Unknown all ps → Unknown (all ++ v ∷ []) ps
 unknown_after all v [] h k = tt
 unknown_after all v (p ∷ ps) h k =
-    let each = both_false (bytes_eq v.name p.name) _ h in
+    let each = or_parts (bytes_eq v.name p.name) _ h in
     (none_after all v p.name k.0 each.0, unknown_after all v ps each.1 k.1)
 
 pub none_known : (ps : List Param) → Unknown [] ps
@@ -156,7 +142,7 @@ PlacedFrom first names at (n ∷ ns) = (place_from first names n ≡ Some at) ×
 placed_behind : (first : ℕ) (name : List ℕ) (names : List (List ℕ)) (at : ℕ) (ns : List (List ℕ)) → list_any (λ later. bytes_eq name later) ns ≡ false → PlacedFrom (first + 1) names at ns → PlacedFrom first (name ∷ names) at ns
 placed_behind first name names at [] h k = tt
 placed_behind first name names at (n ∷ ns) h k =
-    let each = both_false (bytes_eq name n) _ h in
+    let each = or_parts (bytes_eq name n) _ h in
     (ap (λ b. cond b (Some first) (place_from (first + 1) names n)) each.0 ∙ k.0, placed_behind first name names (at + 1) ns each.1 k.1)
 
 -- Names that differ are all found.
@@ -168,7 +154,7 @@ all_placed first (n ∷ ns) d =
 any_after : (name last : List ℕ) (ns : List (List ℕ)) → list_any (λ later. bytes_eq name later) ns ≡ false → bytes_eq name last ≡ false → list_any (λ later. bytes_eq name later) (ns ++ last ∷ []) ≡ false
 any_after name last [] h e = ap (λ b. b || false) e
 any_after name last (n ∷ ns) h e =
-    let each = both_false (bytes_eq name n) _ h in
+    let each = or_parts (bytes_eq name n) _ h in
     ap (λ b. b || list_any (λ later. bytes_eq name later) (ns ++ last ∷ [])) each.0 ∙ any_after name last ns each.1 e
 
 -- A last name that is none of the others differs from them.

@@ -18,7 +18,8 @@ use Rattle.xs_ccheck.specs.declared.code.ValueType.TheVariants.{Number, Scalar, 
 use Rattle.xs_ccheck.specs.declared.resolve_names.Local.{Local}
 use Rattle.xs_ccheck.specs.Tree as code
 use Rattle.xs_ccheck.specs.Tree.{StRead, SvIv, SvNewMortal, SvSetIv, StSet, XsReturn, XsReturnYes, CroakUsage, NewXs, Tree, Variable, ItemCount, Assign, Binary, Convert, Forget}
-use Rattle.xs_ccheck.specs.Typing.{Scope, behind_block, done, expr, is_interface_word, is_taken, literal, literal_kind, operator_of, perl, place_from, place_of, row_named, stmt, stmts, type_named, typed, variable_of, with_variable}
+use Rattle.xs_ctok.specs.Words.{is_interface_word}
+use Rattle.xs_ccheck.specs.Typing.{Scope, behind_block, done, expr, is_taken, literal, literal_kind, operator_of, perl, place_from, place_of, row_named, stmt, stmts, type_named, typed, variable_of, with_variable}
 use Rattle.xs_stub.specs.Intended as intended
 use Rattle.xs_stub.specs.Intended.{call_of, declared_param, int_argument, int_type, inputs_from, iv_type, registration, return_one, returned_value, sum_of, sv_pointer, usage_test}
 use Rattle.xs_stub.specs.Stub.{joined_names, name_or_nothing}
@@ -139,7 +140,7 @@ unfolding is_taken
 not_taken variables name h k = rw (h, k) refl
 
 module _ (names : List (List ℕ)) where
-  pub become : {at end : Scope} {all : List StmtTree} {ts : List Tree} → Becomes names at all ts end → stmts names at (stmts_of all) ≡ Ok (record { trees = trees_of ts; scope = end })
+  pub become : {at end : Scope} {all : List StmtTree} {ts : List Tree} → Becomes names at all ts end → stmts names at (stmts_of all) ≡ done end (trees_of ts)
   unfolding stmt
   become Nothing = refl
   become (Then first more) = rw (first, become more) refl

@@ -1,17 +1,17 @@
 -- The boot, and all commands: the two transcripts are one.
-use Rattle.std.proofs.Common.{◌≡◌, ℕ, ◌+◌, arith, List, [], ◌∷◌, ◌++◌, length, Option, Some, None, refl, sym, ap, subst, ◌∙◌, append_assoc}
+use Rattle.std.proofs.Common.{◌≡◌, ℕ, ◌+◌, arith, List, [], ◌∷◌, ◌++◌, length, Option, Some, None, refl, sym, ap, subst, ◌∙◌}
 use Rattle.std.specs.Prelude.{codes, slice_get}
 use Rattle.xs_machine.proofs.Ends.{run_over}
-use Rattle.xs_machine.specs.declared.api.Abrupt.TheVariants.{Returns}
-use Rattle.xs_machine.specs.declared.api.Registered.{Registered}
+use Rattle.xs_api.specs.declared.api.Abrupt.TheVariants.{Returns}
+use Rattle.xs_api.specs.declared.api.Registered.{Registered}
 use Rattle.xs_machine.specs.declared.machine.Outcome.TheVariants as outcome
 use Rattle.xs_machine.specs.Cmean.{meaning_all}
 use Rattle.xs_ccheck.specs.Functions.{boot_at, function_at}
 use Rattle.xs_machine.specs.Machine.{Mach, Enter, Leave, boot_begun, booted, call_meaning, call_over, loaded, new_world, run, run_on, with_call}
-use Rattle.xs_machine.specs.Rows.{counted_rows}
+use Rattle.xs_api.specs.Rows.{counted_rows}
 use Rattle.xs_machine.specs.State.{State, Stop}
 use Rattle.xs_ccheck.specs.Tree.{Code}
-use Rattle.xs_machine.specs.World.{World, depths_of, new_cells}
+use Rattle.xs_api.specs.World.{World, depths_of, new_cells}
 use Rattle.xs_iface.specs.declared.xsub.Module.{Module}
 use Rattle.xs_iface.specs.declared.xsub.Xsub.{Xsub}
 use Rattle.xs_iface.specs.SumForm.{IsSumModule}
@@ -23,7 +23,7 @@ use Rattle.xs_call.specs.Meaning as declared
 use Rattle.xs_call.specs.Meaning.{Store, declared_transcript, new_store}
 use Rattle.xs_call.specs.Running as running
 use Rattle.xs_call.specs.Running.{boot_told, end_of, machine_transcript}
-use Rattle.xs_call.specs.Transcript.{live_line}
+use Rattle.xs_call.specs.Transcript.{Told, calls_told, go_on, live_line, script_told}
 use Rattle.xs_call.proofs.Calling.{resting}
 use Rattle.xs_call.proofs.Commands.{AtRest, SameNext}
 use Rattle.xs_call.proofs.Every.{command_same, registered_names}
@@ -32,7 +32,7 @@ use Rattle.xs_call.proofs.Statements.{state, world, frame}
 
 module _ (names : List Registered) where
   -- what goes on behind a command
-  goes_on : (a : Option (Mach World)) (b : Option Store) (f : Mach World → List ℕ) (g : Store → List ℕ) → SameNext names a b → ((r : Mach World) (s : Store) → AtRest names r s → f r ≡ g s) → running.go_on a f ≡ declared.go_on b g
+  goes_on : (a : Option (Mach World)) (b : Option Store) (f : Mach World → List ℕ) (g : Store → List ℕ) → SameNext names a b → ((r : Mach World) (s : Store) → AtRest names r s → f r ≡ g s) → go_on a f ≡ go_on b g
   goes_on None None f g n h = refl
   goes_on (Some r) (Some s) f g n h = h r s n
   goes_on None (Some s) f g n h = absurd n
@@ -61,12 +61,12 @@ module _ (code : Code) (m : Module) (good : IsSumModule m) (glue : code.function
   abbrev names : List Registered
   names = registered_names m
 
-  calls_same : (cs : List CallCommand) (r : Mach World) (s : Store) → AtRest names r s → running.calls_told code r cs ≡ declared.calls_told m s cs
+  calls_same : (cs : List CallCommand) (r : Mach World) (s : Store) → AtRest names r s → calls_told (running.told_call code) r cs ≡ calls_told (declared.told_call m) s cs
   calls_same [] r s a = refl
   calls_same (c ∷ cs) r s a =
       let one = command_same code m good glue r s c a in
-      ap (λ l. l ++ running.go_on (running.told_call code r c).next (λ next. running.calls_told code next cs)) one.text
-      ∙ ap (λ l. (declared.told_call m s c).text ++ l) (goes_on names (running.told_call code r c).next (declared.told_call m s c).next (λ next. running.calls_told code next cs) (λ next. declared.calls_told m next cs) one.next (calls_same cs))
+      ap (λ l. l ++ go_on (running.told_call code r c).next (λ next. calls_told (running.told_call code) next cs)) one.text
+      ∙ ap (λ l. (declared.told_call m s c).text ++ l) (goes_on names (running.told_call code r c).next (declared.told_call m s c).next (λ next. calls_told (running.told_call code) next cs) (λ next. calls_told (declared.told_call m) next cs) one.next (calls_same cs))
 
   calls_exact : (cs : List CallCommand) (r : Mach World) (s : Store) → AtRest names r s → exact_along m code r s cs
   calls_exact [] r s a = tt
@@ -127,14 +127,12 @@ module _ (code : Code) (m : Module) (good : IsSumModule m) (glue : code.function
   pub transcripts_same : (cs : List CallCommand) → machine_transcript code loaded cs ≡ declared_transcript m cs
   unfolding machine_transcript declared_transcript
   transcripts_same cs =
-      ap (λ b. running.transcript_behind code b cs) boot_tells
-      ∙ append_assoc (codes "boot returned\n") (live_line 0 0 0) (running.calls_told code boot_rest cs)
-      ∙ ap (λ l. codes "boot returned\n" ++ (live_line 0 0 0 ++ l)) (calls_same cs boot_rest new_store at_rest)
+      ap (λ b. script_told (running.told_call code) b cs) boot_tells ∙ ap (λ l. codes "boot returned\n" ++ live_line 0 0 0 ++ l) (calls_same cs boot_rest new_store at_rest)
 
   pub exact_same : (cs : List CallCommand) → ExactAfter m code cs
   unfolding ExactAfter
   exact_same cs =
-      let P : running.Told → Type 0 = λ b. exact_behind b.next (Some new_store) (λ machine store. exact_along m code machine store cs) in
+      let P : Told (Mach World) → Type 0 = λ b. exact_behind b.next (Some new_store) (λ machine store. exact_along m code machine store cs) in
       subst P (sym boot_tells) (exact names boot_rest new_store at_rest, calls_exact cs boot_rest new_store at_rest)
 
 -- ---- the laws

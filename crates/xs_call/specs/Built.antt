@@ -1,11 +1,14 @@
 -- The forms of XS file that are built so far. A form that is not built is refused behind the faults of the sections and before all others.
-use Rattle.std.specs.Prelude.{ℕ, Bool, false, List, [], ◌∷◌, Option, None, Some, Result, Ok, Err, if◌then◌else◌}
+use Rattle.std.specs.Option.{option_map, option_or}
+use Rattle.std.specs.Prelude.{ℕ, Bool, false, List, [], ◌∷◌, Option, None, Some, Result, if◌then◌else◌}
 use Rattle.xs_base.specs.declared.fault.Fault.{Fault}
+use Rattle.xs_base.specs.declared.place.FileOf.{FileOf}
 use Rattle.xs_base.specs.declared.place.FileOf.TheVariants.{Xs}
 use Rattle.xs_base.specs.declared.place.Line.{Line}
-use Rattle.xs_csyn.specs.Lexemes.{is_passed_line}
+use Rattle.xs_ctok.specs.Lexemes.{is_passed_line}
 use Rattle.xs_iface.specs.declared.drafts.TheConstants.{NOT_BUILT}
 use Rattle.xs_iface.specs.Iface.{part_line}
+use Rattle.xs_sections.specs.Cut.{unless_fault}
 use Rattle.xs_iface.specs.Paragraph.{is_sum_paragraph}
 use Rattle.xs_sections.specs.declared.sections.Part.{Part}
 use Rattle.xs_sections.specs.declared.sections.PartBody.{PartBody}
@@ -27,18 +30,14 @@ abbrev pub unbuilt_part : ℕ → List Part → Option ℕ
 unbuilt_part module_line [] = None
 unbuilt_part module_line (part ∷ parts) = if is_built part.body then unbuilt_part module_line parts else Some (part_line module_line part.body)
 
-abbrev pub or_later : Option ℕ → Option ℕ → Option ℕ
-or_later None later = later
-or_later (Some line) later = Some line
-
 -- the line of the first form that is not built: the C part stands before the other parts
 unfoldable pub unbuilt_line : Sections → Option ℕ
-unbuilt_line s = or_later (unbuilt_c_line s.c_part) (unbuilt_part s.module_line s.parts)
+unbuilt_line s = option_or (unbuilt_c_line s.c_part) (unbuilt_part s.module_line s.parts)
 
-abbrev pub unless_unbuilt : Option ℕ → Result (Unit {0}) Fault
-unless_unbuilt None = Ok tt
-unless_unbuilt (Some line) = Err (record { file = Xs; line = line; code = NOT_BUILT; word = [] })
+-- the fault of a form that is not built yet
+abbrev pub not_built_in : FileOf → ℕ → Fault
+not_built_in file line = record { file = file; line = line; code = NOT_BUILT; word = [] }
 
 -- the refusal of a file with a form that is not built
 unfoldable pub built : Sections → Result (Unit {0}) Fault
-built s = unless_unbuilt (unbuilt_line s)
+built s = unless_fault (option_map (not_built_in Xs) (unbuilt_line s)) tt

@@ -1,11 +1,11 @@
 -- The commands of a script that can be run so far: calls in list form with whole numbers that an IV holds.
 use Rattle.std.specs.Option.{option_map}
-use Rattle.std.specs.Prelude.{ℤ, ℕ, List, [], ◌∷◌, ◌++◌, Option, None, Some, option_and_then, Result, Ok, Err}
-use Rattle.xs_base.specs.Reading.{◌>>=◌}
+use Rattle.std.specs.Prelude.{ℤ, ℕ, List, [], ◌∷◌, Option, None, Some, option_and_then, Result, Ok, Err}
 use Rattle.xs_base.specs.declared.fault.Fault.{Fault}
 use Rattle.xs_base.specs.declared.place.FileOf.TheVariants.{Script}
 use Rattle.xs_call.specs.declared.calls.CallCommand.{CallCommand}
-use Rattle.xs_iface.specs.declared.drafts.TheConstants.{NOT_BUILT}
+use Rattle.xs_call.specs.Built.{not_built_in}
+use Rattle.xs_iface.specs.Iface.{collect}
 use Rattle.xs_script.specs.Expr.{Expr, Num, Said, My, MyCall, Ro, CallSub, Show, Drop, Isa, Sub}
 use Rattle.xs_script.specs.declared.command.Number.TheVariants.{Int}
 
@@ -20,7 +20,7 @@ ints_of (e ∷ es) = option_and_then (λ n. option_map (λ ns. n ∷ ns) (ints_o
 
 -- the fault of a command of a form that is not built yet
 abbrev pub not_built_at : ℕ → Fault
-not_built_at line = record { file = Script; line = line; code = NOT_BUILT; word = [] }
+not_built_at line = not_built_in Script line
 
 abbrev pub call_with : ℕ → List ℕ → Option (List ℤ) → Result CallCommand Fault
 call_with line sub None = Err (not_built_at line)
@@ -36,11 +36,6 @@ call_said (Drop line name) = Err (not_built_at line)
 call_said (Isa line class parent) = Err (not_built_at line)
 call_said (Sub line sub actions) = Err (not_built_at line)
 
--- calls in front of others
-abbrev pub with_front : List CallCommand → Result (List CallCommand) Fault → Result (List CallCommand) Fault
-with_front front others = others >>= λ rest. Ok (front ++ rest)
-
 -- the calls of a script, or the fault of its first command that is none
 abbrev pub calls_said : List Said → Result (List CallCommand) Fault
-calls_said [] = Ok []
-calls_said (s ∷ ss) = call_said s >>= λ c. calls_said ss >>= λ cs. Ok (c ∷ cs)
+calls_said commands = collect call_said commands

@@ -7,11 +7,12 @@ use Rattle.xs_call.specs.Meaning as declared
 use Rattle.xs_call.specs.Meaning.{Store, declared_transcript, new_store}
 use Rattle.xs_call.specs.Running as running
 use Rattle.xs_call.specs.Running.{boot_told, end_of, machine_transcript}
+use Rattle.xs_call.specs.Transcript.{Told}
 use Rattle.xs_iface.specs.SumForm.{IsSumModule}
 use Rattle.xs_iface.specs.declared.xsub.Module.{Module}
 use Rattle.xs_machine.specs.Machine.{Mach, booted, loaded}
 use Rattle.xs_ccheck.specs.Tree.{Code}
-use Rattle.xs_machine.specs.World.{World, live_of}
+use Rattle.xs_api.specs.World.{World, live_of}
 
 -- ---- the machine
 
@@ -40,7 +41,7 @@ exact_along m code machine store [] = ⊤
 exact_along m code machine store (c ∷ cs) = exact_behind (running.told_call code machine c).next (declared.told_call m store c).next (λ machine1 store1. exact_along m code machine1 store1 cs)
 
 -- the boot and what it tells
-abbrev pub booted_told : Code → running.Told
+abbrev pub booted_told : Code → Told (Mach World)
 booted_told code = boot_told (end_of (booted code TURNS loaded).stopped) (booted code TURNS loaded)
 
 -- the machine is exact after the boot, and after each command that goes on

@@ -1,13 +1,16 @@
 -- The declared meaning: what each command of a script does, by the interface alone. No glue text is read here, nothing is counted, and
 -- there are no temporaries.
 use Rattle.std.specs.Prelude.{ℤ, pos, ℕ, ◌+◌, ◌==◌, nat_le, Bool, List, [], ◌∷◌, ◌++◌, map, length, slice_index_or, codes, Option, None, Some, Result, Ok, Err, if◌then◌else◌}
+use Rattle.std.specs.List.{find}
 use Rattle.std.specs.Str.{bytes_eq}
 use Rattle.xs_call.specs.declared.calls.CallCommand.{CallCommand}
-use Rattle.xs_call.specs.Transcript.{CallEnd, Returned, Croaked, Trapped, Spent, call_text, end_lines, live_line, own_trap_text}
+use Rattle.xs_call.specs.Transcript.{CallEnd, Returned, Croaked, Trapped, Told, call_text, end_told, in_front, live_line, own_trap_text, script_told}
 use Rattle.xs_iface.specs.declared.xsub.Module.{Module}
 use Rattle.xs_iface.specs.declared.xsub.Term.{Term}
 use Rattle.xs_iface.specs.declared.xsub.Term.TheVariants.{Literal, Parameter}
 use Rattle.xs_iface.specs.declared.xsub.Xsub.{Xsub}
+use Rattle.xs_machine.specs.Machine.{undefined_text}
+use Rattle.xs_api.specs.Rows.{most_items, usage_text}
 use Rattle.xs_script.specs.ValueText.{value_text_of}
 use Rattle.xs_stub.specs.Stub.{joined_names}
 use Rattle.xs_values.specs.declared.kind.Kind.TheVariants.{I32, I64}
@@ -43,7 +46,7 @@ names_from n (z ∷ zs) = n ∷ names_from (n + 1) zs
 
 -- 1. The argument test: the croak names the parameters and the name under which the call was made.
 abbrev pub usage_croak : List ℕ → Xsub → List ℕ
-usage_croak called x = codes "Usage: " ++ called ++ 40 ∷ joined_names x.params ++ 41 ∷ []
+usage_croak called x = usage_text called (joined_names x.params)
 
 -- 4. Each parameter of type `int` gets the IV of its argument, converted.
 abbrev pub input_of : Plain → Number
@@ -87,59 +90,39 @@ xsub_ended called x store args =
 
 -- the XSUB of a name
 abbrev pub xsub_named : List ℕ → List Xsub → Option Xsub
-xsub_named name [] = None
-xsub_named name (x ∷ xs) = if bytes_eq x.full name then Some x else xsub_named name xs
+xsub_named name xs = find (λ (x : Xsub). bytes_eq x.full name) xs
 
 -- a name that no XSUB has croaks
-abbrev pub undefined_croak : List ℕ → List ℕ
-undefined_croak name = codes "Undefined subroutine &" ++ name ++ codes " called"
-
 abbrev pub call_ended : List ℕ → Option Xsub → Store → List ℕ → Ended
-call_ended called None store args = record { how = Croaked (undefined_croak called); store = store }
+call_ended called None store args = record { how = Croaked (undefined_text called); store = store }
 call_ended called (Some x) store args = xsub_ended called x store args
 
--- a call with the scalars of its arguments: the argument list holds 1,000,000 items at most
+-- a call with the scalars of its arguments, which the argument list holds up to a limit
 abbrev pub called : Module → List ℕ → Store → List ℕ → Ended
-called m name store args = if nat_le (length args) 1000000 then call_ended name (xsub_named name m.xsubs) store args else record { how = Trapped Large; store = store }
+called m name store args = if nat_le (length args) most_items then call_ended name (xsub_named name m.xsubs) store args else record { how = Trapped Large; store = store }
 
 -- ---- the transcript
 
--- what a command tells, and the store behind it where the script goes on
-pub record Told : Type 0 where
-  pub text : List ℕ
-  pub next : Option Store
-
 -- Nothing here refers to a scalar, and a script has no variables so far: no scalar lives between the commands.
-abbrev pub nothing_lives : List ℕ
-nothing_lives = live_line 0 0 0
+abbrev pub settled_told : Store → Told Store
+settled_told store = record { text = live_line 0 0 0; next = Some store }
 
 abbrev pub show_in : Store → ℕ → List ℕ
 show_in store name = value_text_of (value_at store name)
 
-abbrev pub told_end : CallCommand → List ℕ → CallEnd → Store → Told
-told_end c args (Returned items) store = record { text = call_text c ++ (end_lines (show_in store) args (Returned items) ++ nothing_lives); next = Some store }
-told_end c args (Croaked text) store = record { text = call_text c ++ (end_lines (show_in store) args (Croaked text) ++ nothing_lives); next = Some store }
-told_end c args (Trapped trap) store = record { text = call_text c ++ end_lines (show_in store) args (Trapped trap); next = None }
-told_end c args Spent store = record { text = call_text c ++ end_lines (show_in store) args Spent; next = None }
+abbrev pub told_end : CallCommand → List ℕ → CallEnd → Store → Told Store
+told_end c args end store = end_told show_in settled_told (call_text c) args end store
 
-abbrev pub told_ended : CallCommand → List ℕ → Ended → Told
+abbrev pub told_ended : CallCommand → List ℕ → Ended → Told Store
 told_ended c args e = told_end c args e.how e.store
 
 -- A call: its arguments are made, each a new scalar, and then the XSUB is called.
-abbrev pub told_call : Module → Store → CallCommand → Told
+abbrev pub told_call : Module → Store → CallCommand → Told Store
 told_call m store c =
     if may_make (length c.args) store
     then told_ended c (names_from (length store) c.args) (called m c.sub (store ++ map Int c.args) (names_from (length store) c.args))
     else record { text = own_trap_text Large; next = None }
 
-abbrev pub go_on : Option Store → (Store → List ℕ) → List ℕ
-go_on None more = []
-go_on (Some store) more = more store
-
-abbrev pub calls_told : Module → Store → List CallCommand → List ℕ
-calls_told m store [] = []
-calls_told m store (c ∷ cs) = (told_call m store c).text ++ go_on (told_call m store c).next (λ next. calls_told m next cs)
-
 -- The boot registers the XSUBs and returns. Then each command is told in order.
 unfoldable pub declared_transcript : Module → List CallCommand → List ℕ
-declared_transcript m cs = codes "boot returned\n" ++ (nothing_lives ++ calls_told m new_store cs)
+declared_transcript m cs = script_told (told_call m) (in_front (codes "boot returned\n") (settled_told new_store)) cs

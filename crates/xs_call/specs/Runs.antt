@@ -1,12 +1,13 @@
 -- What the runner's functions owe to the definition of the transcript.
 use Rattle.std.specs.Prelude.{◌≡◌, ℤ, ℕ, List, None, Some, Result, Ok, Err, if◌then◌else◌}
-use Rattle.xs_call.specs.Running.{AllMade, NotMade, Told, args_made}
+use Rattle.xs_call.specs.Running.{AllMade, NotMade, args_made}
+use Rattle.xs_call.specs.Transcript.{Told}
 use Rattle.xs_call.specs.declared.running.Telling.{Telling}
 use Rattle.xs_machine.specs.Machine.{Mach}
 use Rattle.xs_machine.specs.Views.{with_world}
-use Rattle.xs_machine.specs.World.{World}
-use Rattle.xs_machine.specs.declared.api.Stop.{Stop}
-use Rattle.xs_machine.specs.declared.api.Stop.TheVariants as stop
+use Rattle.xs_api.specs.World.{World}
+use Rattle.xs_api.specs.declared.api.Stop.{Stop}
+use Rattle.xs_api.specs.declared.api.Stop.TheVariants as stop
 
 -- The arguments were made, or a limit was reached; want of memory says nothing.
 abbrev pub MakesArguments : List ℤ → Mach World → Result (List ℕ) Stop → Mach World → Type 0
@@ -15,6 +16,6 @@ MakesArguments values old (Err (stop.Trap trap)) new = (args_made values old.sta
 MakesArguments values old (Err stop.Memory) new = Unit {0}
 
 -- This was told, and the machine stands where the script goes on, if it does.
-pub record IsTold (told : Told) (telling : Telling) (machine : Mach World) : Type 0 where
+pub record IsTold (told : Told (Mach World)) (telling : Telling) (machine : Mach World) : Type 0 where
   pub text_is : telling.text ≡ told.text
   pub next_is : told.next ≡ (if telling.goes_on then Some machine else None)

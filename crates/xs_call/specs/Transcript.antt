@@ -39,15 +39,15 @@ returned_text n = together (codes " returned " ∷ decimal n ∷ codes "\n" ∷ 
 unfoldable pub croaked_text : List ℕ → List ℕ
 croaked_text text = together (codes " croaked " ∷ quoted_text text ∷ codes "\n" ∷ [])
 
+-- a trap in the work between the calls, and one that ends a call
+unfoldable pub own_trap_text : Trap → List ℕ
+own_trap_text trap = together (codes "trapped " ∷ trap_name trap ∷ codes "\n" ∷ [])
+
 unfoldable pub trapped_text : Trap → List ℕ
-trapped_text trap = together (codes " trapped " ∷ trap_name trap ∷ codes "\n" ∷ [])
+trapped_text trap = codes " " ++ own_trap_text trap
 
 unfoldable pub spent_text : List ℕ
 spent_text = codes " spent\n"
-
--- a trap in the work between the calls
-unfoldable pub own_trap_text : Trap → List ℕ
-own_trap_text trap = together (codes "trapped " ∷ trap_name trap ∷ codes "\n" ∷ [])
 
 abbrev pub alias_at : Option ℕ → List ℕ
 alias_at None = []
@@ -82,3 +82,34 @@ end_lines show args (Returned items) = returned_text (length items) ++ (item_lin
 end_lines show args (Croaked text) = croaked_text text ++ arg_lines show 0 args
 end_lines show args (Trapped trap) = trapped_text trap
 end_lines show args Spent = spent_text
+
+-- ---- a script, command by command, whatever is behind it
+
+-- what a command tells, and the state behind it where the script goes on
+pub record Told (S : Type 0) : Type 0 where
+  pub text : List ℕ
+  pub next : Option S
+
+-- lines in front of what is told
+abbrev pub in_front : {S : Type 0} → List ℕ → Told S → Told S
+in_front text t = record { text = text ++ t.text; next = t.next }
+
+-- What a call tells by its end, with the begin of its first line: the lines of the end, and what is told behind it where the script goes on.
+abbrev pub end_told : {S : Type 0} → (S → ℕ → List ℕ) → (S → Told S) → List ℕ → List ℕ → CallEnd → S → Told S
+end_told show behind head args (Returned items) s = in_front (head ++ end_lines (show s) args (Returned items)) (behind s)
+end_told show behind head args (Croaked text) s = in_front (head ++ end_lines (show s) args (Croaked text)) (behind s)
+end_told show behind head args (Trapped trap) s = record { text = head ++ end_lines (show s) args (Trapped trap); next = None }
+end_told show behind head args Spent s = record { text = head ++ end_lines (show s) args Spent; next = None }
+
+abbrev pub go_on : {S : Type 0} → Option S → (S → List ℕ) → List ℕ
+go_on None more = []
+go_on (Some s) more = more s
+
+-- the commands in their order
+abbrev pub calls_told : {S : Type 0} → (S → CallCommand → Told S) → S → List CallCommand → List ℕ
+calls_told tell s [] = []
+calls_told tell s (c ∷ cs) = (tell s c).text ++ go_on (tell s c).next (λ next. calls_told tell next cs)
+
+-- the boot, and the commands behind it
+abbrev pub script_told : {S : Type 0} → (S → CallCommand → Told S) → Told S → List CallCommand → List ℕ
+script_told tell boot cs = boot.text ++ go_on boot.next (λ s. calls_told tell s cs)

@@ -5,9 +5,9 @@ ghost use Rattle.xs_call.specs.Calls.{call_said, call_with, calls_said, int_of, 
 ghost use Rattle.xs_script.specs.Expr.{Num};
 ghost use Rattle.xs_script.specs.View.{plain, said};
 
+use crate::built::not_built;
 use std::alloc::Global;
-use xs_base::{Bytes, Fault, FileOf, Items, Memory, Refuse};
-use xs_iface::NOT_BUILT;
+use xs_base::{Bytes, FileOf, Items, Memory, Refuse};
 use xs_script::{Command, E, Number};
 
 /// A call of an XSUB in list form.
@@ -61,22 +61,17 @@ fn int_values(alloc: Global, es: &[E]) -> Result<Option<Items<i64>>, Memory>
 }
 
 // The refusal of a command of a form that is not built yet.
-fn not_built(alloc: Global, line: u32) -> Refuse
+fn not_built_at(alloc: Global, line: u32) -> Refuse
     ensures { result ≡ Refuse.Fault (not_built_at line) }
 {
-    Refuse::Fault(Fault {
-        file: FileOf::Script,
-        line,
-        code: NOT_BUILT,
-        word: Bytes::new(alloc),
-    })
+    not_built(alloc, FileOf::Script, line)
 }
 
 fn call_with(alloc: Global, line: u32, sub: &Bytes, args: &[E]) -> Result<CallCommand, Refuse>
     ensures { Gives result (call_with line sub.now (ints_of (map plain args.now))) }
 {
     let Some(args) = int_values(alloc, args)? else {
-        return Err(not_built(alloc, line));
+        return Err(not_built_at(alloc, line));
     };
     Ok(CallCommand {
         line,
@@ -90,13 +85,13 @@ fn plain_call(alloc: Global, command: &Command) -> Result<CallCommand, Refuse>
 {
     match command {
         Command::Call(line, sub, args) => Ok(call_with(alloc, *line, sub, args.as_slice())?),
-        Command::My(line, _, _) => Err(not_built(alloc, *line)),
-        Command::MyCall(line, _, _, _) => Err(not_built(alloc, *line)),
-        Command::Ro(line, _) => Err(not_built(alloc, *line)),
-        Command::Show(line, _) => Err(not_built(alloc, *line)),
-        Command::Drop(line, _) => Err(not_built(alloc, *line)),
-        Command::Isa(line, _, _) => Err(not_built(alloc, *line)),
-        Command::Sub(line, _, _) => Err(not_built(alloc, *line)),
+        Command::My(line, _, _) => Err(not_built_at(alloc, *line)),
+        Command::MyCall(line, _, _, _) => Err(not_built_at(alloc, *line)),
+        Command::Ro(line, _) => Err(not_built_at(alloc, *line)),
+        Command::Show(line, _) => Err(not_built_at(alloc, *line)),
+        Command::Drop(line, _) => Err(not_built_at(alloc, *line)),
+        Command::Isa(line, _, _) => Err(not_built_at(alloc, *line)),
+        Command::Sub(line, _, _) => Err(not_built_at(alloc, *line)),
     }
 }
 

@@ -47,9 +47,9 @@ pub fn croaked_text(alloc: Global, text: &Bytes) -> Result<Bytes, Memory>
 pub fn trapped_text(alloc: Global, trap: Trap) -> Result<Bytes, Memory>
     ensures { IfOk result (λ line. line ≡ trapped_text trap) }
 {
-    let trapped = b" trapped ".as_slice();
-    let end = b"\n".as_slice();
-    together(alloc, &[trapped, trap_name(trap), end])
+    let mut line = Bytes::from_slice(alloc, b" ")?;
+    line.append(own_trap_text(alloc, trap)?.as_slice())?;
+    Ok(line)
 }
 
 /// `trapped KIND`, the last line where the work between the calls traps.

@@ -1,12 +1,12 @@
 //! A C text is run on the calls of a script, and each command is told.
 ghost use Rattle.std.specs.Prelude.{◌≡◌, ◌≢◌, ◌++◌, ◌∷◌, [], Err, IfOk, OnErr, OnOk, false, true};
-ghost use Rattle.xs_call.specs.Running.{boot_told, calls_told, end_of, in_front, machine_transcript, settled_told, show_cell, told_call, told_end};
+ghost use Rattle.xs_call.specs.Running.{boot_told, end_of, machine_transcript, settled_told, show_cell, told_call, told_end};
 ghost use Rattle.xs_call.specs.Runs.{IsTold, MakesArguments};
-ghost use Rattle.xs_call.specs.Transcript.{Croaked, Returned, arg_line, arg_lines, end_lines, item_line, item_lines, live_line};
+ghost use Rattle.xs_call.specs.Transcript.{Croaked, Returned, arg_line, arg_lines, calls_told, end_lines, in_front, item_line, item_lines, live_line};
 ghost use Rattle.xs_machine.specs.Machine.{booted};
-ghost use Rattle.xs_machine.specs.declared.api.Stop.TheVariants as stop;
+ghost use Rattle.xs_api.specs.declared.api.Stop.TheVariants as stop;
 ghost use Rattle.xs_machine.specs.Views.{MakesArgument, code_in, mach_of, pending_of};
-ghost use Rattle.xs_machine.specs.World.{live_of};
+ghost use Rattle.xs_api.specs.World.{live_of};
 ghost use Rattle.xs_values.specs.declared.plain.Plain.TheVariants as plain;
 
 use crate::calls::CallCommand;
@@ -15,8 +15,9 @@ use crate::lines::{
     trapped_text,
 };
 use std::alloc::Global;
+use xs_api::{Depths, Stop};
 use xs_base::{Bytes, Items, Memory};
-use xs_machine::{Depths, Machine, Outcome, Stop};
+use xs_machine::{Machine, Outcome};
 use xs_script::value_text;
 use xs_values::{Name, Plain};
 
@@ -282,7 +283,7 @@ fn tell_calls(
     calls: &[CallCommand],
 ) -> Result<(), Memory>
     requires { pending_of machine.old ≡ [] }
-    ensures told { OnOk result (text.new ≡ text.old ++ calls_told (code_in machine.old) (mach_of machine.old) calls.now) }
+    ensures told { OnOk result (text.new ≡ text.old ++ calls_told (told_call (code_in machine.old)) (mach_of machine.old) calls.now) }
 {
     for call in calls {
         let told = tell_call(alloc, machine, call)?;

@@ -1,17 +1,14 @@
 -- A tree opens into the trees of its parts.
-use Rattle.std.proofs.Common.{◌≡◌, ℕ, zero, suc, ◌<◌, Bool, true, false, List, Option, Some, None, refl, ap, ◌∙◌, arith}
-use Rattle.std.specs.Prelude.{slice_get, ◌&&◌, nat_lt}
+use Rattle.std.proofs.Common.{◌≡◌, ℕ, zero, suc, ◌<◌, true, List, Option, Some, None, refl, ap, ◌∙◌, arith}
+use Rattle.std.specs.Prelude.{slice_get, nat_lt}
+use Rattle.std.proofs.lemmas.Bool.{and_parts}
 use Rattle.std.proofs.lemmas.Bool.Decides.{nat_tests}
 use Rattle.xs_ccheck.specs.declared.code.Node.{Node}
 use Rattle.xs_ccheck.specs.declared.code.Node.TheVariants as node
 use Rattle.xs_ccheck.specs.Tree.{Tree, Assign, Binary, Convert, ApiRow, Block, If, Forget, Trees, MoreTrees}
 use Rattle.xs_ccheck.specs.Arena.{row_of, tree_from, trees_from, forest_to, tree_at, trees_at, is_before, InOrder}
 
-both : (a b : Bool) → (a && b) ≡ true → (a ≡ true) × (b ≡ true)
-both true b e = (refl, e)
-both false b e = cc
-
-below : (j i : ℕ) → nat_lt j i ≡ true → j < i
+pub below : (j i : ℕ) → nat_lt j i ≡ true → j < i
 below j i e = grind (arith, nat_tests)
 
 -- two ways to look parts up that agree on what stands before a place
@@ -31,13 +28,13 @@ module _ (texts : List (List ℕ)) (i : ℕ) (f g : ℕ → Tree) (h k : ℕ →
   same_tree (node.Variable x) b = refl
   same_tree node.ItemCount b = refl
   same_tree (node.Assign x t e) b = ap (Assign x t) (part e b)
-  same_tree (node.Binary op x y) b = let d = both _ _ b in ap (λ t. Binary op t (f y)) (part x d.0) ∙ ap (Binary op (g x)) (part y d.1)
+  same_tree (node.Binary op x y) b = let d = and_parts _ _ b in ap (λ t. Binary op t (f y)) (part x d.0) ∙ ap (Binary op (g x)) (part y d.1)
   same_tree (node.Convert kind e) b = ap (Convert kind) (part e b)
   same_tree (node.ApiRow r xs) b = ap (ApiRow (row_of texts r)) (parts xs b)
   same_tree (node.Block ts) b = ap Block (parts ts b)
   same_tree (node.If e x y) b =
-      let d = both _ _ b in
-      let d1 = both _ _ d.1 in
+      let d = and_parts _ _ b in
+      let d1 = and_parts _ _ d.1 in
       ap (λ t. If t (f x) (f y)) (part e d.0) ∙ ap (λ t. If (g e) t (f y)) (part x d1.0) ∙ ap (If (g e) (g x)) (part y d1.1)
   same_tree (node.Forget e) b = ap Forget (part e b)
   same_tree (node.Declare x) b = refl
@@ -57,7 +54,7 @@ module _ (texts : List (List ℕ)) (i : ℕ) (f g : ℕ → Tree) (h k : ℕ →
   same_trees (node.Forget e) b = refl
   same_trees (node.Declare x) b = refl
   same_trees node.NoTrees b = refl
-  same_trees (node.MoreTrees t ts) b = let d = both _ _ b in ap (λ x. MoreTrees x (h ts)) (part t d.0) ∙ ap (MoreTrees (g t)) (parts ts d.1)
+  same_trees (node.MoreTrees t ts) b = let d = and_parts _ _ b in ap (λ x. MoreTrees x (h ts)) (part t d.0) ∙ ap (MoreTrees (g t)) (parts ts d.1)
 
   -- at what stands at the place
   pub opens_tree : (o : Option Node) → ((n : Node) → o ≡ Some n → is_before i n ≡ true) → tree_from texts o f h ≡ tree_from texts o g k

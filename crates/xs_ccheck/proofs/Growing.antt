@@ -1,5 +1,5 @@
 -- Nodes and texts that are added behind others change no tree.
-use Rattle.std.proofs.Common.{◌≡◌, ℕ, zero, suc, ◌<◌, Bool, true, false, List, [], ◌∷◌, ◌++◌, length, map, Option, Some, None, refl, sym, ap, ◌∙◌, subst, arith}
+use Rattle.std.proofs.Common.{append-nil, ◌≡◌, ℕ, zero, suc, ◌<◌, Bool, true, false, List, [], ◌∷◌, ◌++◌, length, map, Option, Some, None, refl, sym, ap, ◌∙◌, subst, arith}
 use Rattle.std.specs.Prelude.{cond, slice_get, slice_index_or, nat_lt}
 use Rattle.std.proofs.lemmas.Bool.Decides.{nat_tests}
 use Rattle.std.proofs.lemmas.List.{get_or_append_left}
@@ -12,10 +12,7 @@ use Rattle.xs_ccheck.specs.declared.code.RowNode.TheVariants as row
 use Rattle.xs_ccheck.specs.Tree.{Tree, Trees, CroakUsage, NewXs, ApiRow}
 use Rattle.xs_ccheck.specs.Arena.{row_of, tree_from, trees_from, forest_to, tree_at, trees_at, is_before, InOrder, function_of}
 use Rattle.xs_ccheck.specs.Placed.{row_has_text, has_text, HasTexts, HasBodies}
-use Rattle.xs_ccheck.proofs.Forest.{Agree, opens_tree, opens_trees, tree_opens, trees_open}
-
-below : (j i : ℕ) → nat_lt j i ≡ true → j < i
-below j i e = grind (arith, nat_tests)
+use Rattle.xs_ccheck.proofs.Forest.{Agree, below, opens_tree, opens_trees, tree_opens, trees_open}
 
 pub get_left : {X : Type 0} (xs ys : List X) (i : ℕ) → i < length xs → slice_get (xs ++ ys) i ≡ slice_get xs i
 get_left [] ys i h = absurd (omega (arith, h))
@@ -25,10 +22,6 @@ get_left (x ∷ xs) ys (suc i) h = get_left xs ys i (omega (arith, h))
 pub get_seam : {X : Type 0} (xs : List X) (y : X) (ys : List X) → slice_get (xs ++ y ∷ ys) (length xs) ≡ Some y
 get_seam [] y ys = refl
 get_seam (x ∷ xs) y ys = get_seam xs y ys
-
-pub append_none : {X : Type 0} (xs : List X) → xs ++ [] ≡ xs
-append_none [] = refl
-append_none (x ∷ xs) = ap (λ ys. x ∷ ys) (append_none xs)
 
 pub some_same : {X : Type 0} (a b : X) → Some a ≡ Some b → a ≡ b
 some_same a b e = cc
@@ -107,8 +100,8 @@ module _ (texts : List (List ℕ)) (nodes : List Node) (n : Node) (ord : InOrder
   module _ (ord1 : InOrder (nodes ++ n ∷ [])) where
     seam : Agree (length nodes) (tree_at texts (nodes ++ n ∷ [])) (tree_at texts nodes) (trees_at texts (nodes ++ n ∷ [])) (trees_at texts nodes)
     seam = record {
-      tree = λ j lt. subst (λ ts. tree_at ts (nodes ++ n ∷ []) j ≡ tree_at texts nodes j) (append_none texts) (tree_grows texts [] nodes (n ∷ []) ord has j lt);
-      trees = λ j lt. subst (λ ts. trees_at ts (nodes ++ n ∷ []) j ≡ trees_at texts nodes j) (append_none texts) (trees_grow texts [] nodes (n ∷ []) ord has j lt);
+      tree = λ j lt. subst (λ ts. tree_at ts (nodes ++ n ∷ []) j ≡ tree_at texts nodes j) (append-nil texts) (tree_grows texts [] nodes (n ∷ []) ord has j lt);
+      trees = λ j lt. subst (λ ts. trees_at ts (nodes ++ n ∷ []) j ≡ trees_at texts nodes j) (append-nil texts) (trees_grow texts [] nodes (n ∷ []) ord has j lt);
     }
 
     pub tree_added : tree_at texts (nodes ++ n ∷ []) (length nodes) ≡ tree_from texts (Some n) (tree_at texts nodes) (trees_at texts nodes)

@@ -1,11 +1,11 @@
 -- What was there is kept.
-use Rattle.std.proofs.Common.{◌≡◌, ℕ, true, List, [], ◌∷◌, ◌++◌, length, map, refl, sym, ap, ◌∙◌, subst, arith}
+use Rattle.std.proofs.Common.{append-nil, ◌≡◌, ℕ, true, List, [], ◌∷◌, ◌++◌, length, map, refl, sym, ap, ◌∙◌, subst, arith}
 use Rattle.std.proofs.Math.ListN.{length-append}
 use Rattle.xs_ccheck.specs.declared.code.Node.{Node}
 use Rattle.xs_ccheck.specs.declared.resolve_nodes.Nodes.{Nodes}
 use Rattle.xs_ccheck.specs.Arena.{is_before, InOrder, tree_at, trees_at, function_of}
 use Rattle.xs_ccheck.specs.Growth.{Keeps, Added}
-use Rattle.xs_ccheck.proofs.Growing.{append_none, tree_grows, trees_grow, functions_same, tree_added, trees_added}
+use Rattle.xs_ccheck.proofs.Growing.{tree_grows, trees_grow, functions_same, tree_added, trees_added}
 
 pub keeps_all : (b : Nodes) → Keeps b b
 keeps_all b = record { tree = λ i h. refl; trees = λ i h. refl; functions = refl; longer = omega arith }
@@ -23,7 +23,7 @@ pub kept_by_text : (old new : Nodes) (text : List ℕ) → new.nodes.items ≡ o
 kept_by_text old new text en ef et =
     let texts = old.texts.items in
     let nodes = old.nodes.items in
-    let at : new.nodes.items ≡ nodes ++ [] = en ∙ sym (append_none nodes) in
+    let at : new.nodes.items ≡ nodes ++ [] = en ∙ sym (append-nil nodes) in
     let has = old.has_texts in
     record {
       tree = λ i lt. ap (λ ns. tree_at new.texts.items ns i) at ∙ ap (λ ts. tree_at ts (nodes ++ []) i) et ∙ tree_grows texts (text ∷ []) nodes [] old.in_order has i lt;
@@ -36,7 +36,7 @@ pub added : (old new : Nodes) (n : Node) (at : ℕ) → at ≡ length old.nodes.
 added old new n at ea b en ef et =
     let texts = old.texts.items in
     let nodes = old.nodes.items in
-    let same : new.texts.items ≡ texts ++ [] = et ∙ sym (append_none texts) in
+    let same : new.texts.items ≡ texts ++ [] = et ∙ sym (append-nil texts) in
     let ord1 : InOrder (nodes ++ n ∷ []) = subst InOrder en new.in_order in
     record {
       keeps = record {

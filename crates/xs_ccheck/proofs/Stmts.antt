@@ -6,12 +6,12 @@ use Rattle.xs_csyn.specs.Tree as syntax
 use Rattle.xs_csyn.specs.Tree.{ExprTree, StmtTree, StmtTrees, MoreStmts}
 use Rattle.xs_ccheck.specs.declared.resolve_nodes.Nodes.{Nodes}
 use Rattle.xs_ccheck.specs.Growth.{Keeps}
-use Rattle.xs_ccheck.specs.ResolvingStmts.{GivesStmt, GivesStmts}
+use Rattle.xs_ccheck.specs.ResolvingStmts.{GivesDone}
 use Rattle.xs_ccheck.specs.Tree.{Tree, Trees, Block, If, Forget, NoTrees, MoreTrees}
-use Rattle.xs_ccheck.specs.Typing.{Typed_tree, Scope, Done_tree, Done_trees, done, behind_block, expr, stmt, stmts, is_condition}
+use Rattle.xs_ccheck.specs.Typing.{Typed_tree, Done, Scope, done, behind_block, expr, stmt, stmts, is_condition}
 use Rattle.xs_ccheck.proofs.Kept.{keeps_on}
 
-pub block_done : (names : List (List ℕ)) (scope inner : Scope) (line : ℕ) (body : StmtTrees) (ts : Trees) → stmts names scope body ≡ Ok (record { trees = ts; scope = inner }) → stmt names scope (syntax.Block line body) ≡ done (behind_block scope inner) (Block ts)
+pub block_done : (names : List (List ℕ)) (scope inner : Scope) (line : ℕ) (body : StmtTrees) (ts : Trees) → stmts names scope body ≡ Ok (record { tree = ts; scope = inner }) → stmt names scope (syntax.Block line body) ≡ done (behind_block scope inner) (Block ts)
 unfolding stmt
 block_done names scope inner line body ts k = rw k refl
 
@@ -23,14 +23,10 @@ pub if_done : (names : List (List ℕ)) (scope behind : Scope) (line : ℕ) (tes
 unfolding stmt
 if_done names scope behind line test then_do x t k h s = rw (k, h, s) refl
 
-pub more_done : (names : List (List ℕ)) (scope one two : Scope) (s : StmtTree) (all : StmtTrees) (t : Tree) (ts : Trees) → stmt names scope s ≡ Ok (record { tree = t; scope = one }) → stmts names one all ≡ Ok (record { trees = ts; scope = two }) → stmts names scope (MoreStmts s all) ≡ Ok (record { trees = MoreTrees t ts; scope = two })
+pub more_done : (names : List (List ℕ)) (scope one two : Scope) (s : StmtTree) (all : StmtTrees) (t : Tree) (ts : Trees) → stmt names scope s ≡ Ok (record { tree = t; scope = one }) → stmts names one all ≡ Ok (record { tree = ts; scope = two }) → stmts names scope (MoreStmts s all) ≡ Ok (record { tree = MoreTrees t ts; scope = two })
 unfolding stmt
 more_done names scope one two s all t ts k m = rw (k, m) refl
 
-pub stmt_from : (r : Result ℕ Refuse) (a b c : Nodes) (scope : Scope) (read : Result Done_tree Fault) → Keeps a b → GivesStmt r b c scope read → GivesStmt r a c scope read
-stmt_from (Ok x) a b c scope read k h = record { means = h.means; below = h.below; keeps = keeps_on a b c k h.keeps }
-stmt_from (Err e) a b c scope read k h = h
-
-pub stmts_from : (r : Result ℕ Refuse) (a b c : Nodes) (scope : Scope) (read : Result Done_trees Fault) → Keeps a b → GivesStmts r b c scope read → GivesStmts r a c scope read
-stmts_from (Ok x) a b c scope read k h = record { means = h.means; below = h.below; keeps = keeps_on a b c k h.keeps }
-stmts_from (Err e) a b c scope read k h = h
+pub done_from : {T : Type 0} (at : Nodes → ℕ → T) (r : Result ℕ Refuse) (a b c : Nodes) (scope : Scope) (read : Result (Done T) Fault) → Keeps a b → GivesDone at r b c scope read → GivesDone at r a c scope read
+done_from at (Ok x) a b c scope read k h = record { means = h.means; below = h.below; keeps = keeps_on a b c k h.keeps }
+done_from at (Err e) a b c scope read k h = h

@@ -22,10 +22,8 @@ row_of texts (row.NewXs t f) = NewXs (slice_index_or texts t []) f
 
 -- a node's tree, with the trees of its parts
 abbrev pub tree_from : List (List ℕ) → Option Node → (ℕ → Tree) → (ℕ → Trees) → Tree
-tree_from texts None tree trees = ItemCount
 tree_from texts (Some (node.Literal n)) tree trees = Literal n
 tree_from texts (Some (node.Variable x)) tree trees = Variable x
-tree_from texts (Some node.ItemCount) tree trees = ItemCount
 tree_from texts (Some (node.Assign x t e)) tree trees = Assign x t (tree e)
 tree_from texts (Some (node.Binary op a b)) tree trees = Binary op (tree a) (tree b)
 tree_from texts (Some (node.Convert k e)) tree trees = Convert k (tree e)
@@ -34,25 +32,12 @@ tree_from texts (Some (node.Block ts)) tree trees = Block (trees ts)
 tree_from texts (Some (node.If e a b)) tree trees = If (tree e) (tree a) (tree b)
 tree_from texts (Some (node.Forget e)) tree trees = Forget (tree e)
 tree_from texts (Some (node.Declare x)) tree trees = Declare x
-tree_from texts (Some node.NoTrees) tree trees = ItemCount
-tree_from texts (Some (node.MoreTrees t ts)) tree trees = ItemCount
+tree_from texts _ tree trees = ItemCount
 
 -- a node's list of trees
 abbrev pub trees_from : Option Node → (ℕ → Tree) → (ℕ → Trees) → Trees
-trees_from None tree trees = NoTrees
-trees_from (Some (node.Literal n)) tree trees = NoTrees
-trees_from (Some (node.Variable x)) tree trees = NoTrees
-trees_from (Some node.ItemCount) tree trees = NoTrees
-trees_from (Some (node.Assign x t e)) tree trees = NoTrees
-trees_from (Some (node.Binary op a b)) tree trees = NoTrees
-trees_from (Some (node.Convert k e)) tree trees = NoTrees
-trees_from (Some (node.ApiRow r xs)) tree trees = NoTrees
-trees_from (Some (node.Block ts)) tree trees = NoTrees
-trees_from (Some (node.If e a b)) tree trees = NoTrees
-trees_from (Some (node.Forget e)) tree trees = NoTrees
-trees_from (Some (node.Declare x)) tree trees = NoTrees
-trees_from (Some node.NoTrees) tree trees = NoTrees
 trees_from (Some (node.MoreTrees t ts)) tree trees = MoreTrees (tree t) (trees ts)
+trees_from _ tree trees = NoTrees
 
 -- the tree and the list of trees of a node, where its parts are looked up so many levels down
 unfoldable pub forest_to : ℕ → List (List ℕ) → List Node → ℕ → Tree × Trees
@@ -68,9 +53,6 @@ trees_at texts nodes i = (forest_to (suc i) texts nodes i).1
 
 -- whether a node's parts stand before it
 abbrev pub is_before : ℕ → Node → Bool
-is_before i (node.Literal n) = true
-is_before i (node.Variable x) = true
-is_before i node.ItemCount = true
 is_before i (node.Assign x t e) = nat_lt e i
 is_before i (node.Binary op a b) = nat_lt a i && nat_lt b i
 is_before i (node.Convert k e) = nat_lt e i
@@ -78,9 +60,8 @@ is_before i (node.ApiRow r xs) = nat_lt xs i
 is_before i (node.Block ts) = nat_lt ts i
 is_before i (node.If e a b) = nat_lt e i && (nat_lt a i && nat_lt b i)
 is_before i (node.Forget e) = nat_lt e i
-is_before i (node.Declare x) = true
-is_before i node.NoTrees = true
 is_before i (node.MoreTrees t ts) = nat_lt t i && nat_lt ts i
+is_before i _ = true
 
 -- each node's parts stand before it
 pub record InOrder (nodes : List Node) : Type 0 where

@@ -8,31 +8,13 @@ use Rattle.xs_ccheck.specs.declared.code.RowNode.TheVariants as row
 
 -- whether the text that a row names is among so many
 abbrev pub row_has_text : ℕ → RowNode → Bool
-row_has_text count row.Entry = true
-row_has_text count row.StRead = true
-row_has_text count row.SvIv = true
-row_has_text count row.SvNewMortal = true
-row_has_text count row.SvSetIv = true
-row_has_text count row.StSet = true
-row_has_text count row.XsReturn = true
-row_has_text count row.XsReturnYes = true
 row_has_text count (row.CroakUsage t) = nat_lt t count
 row_has_text count (row.NewXs t f) = nat_lt t count
+row_has_text count _ = true
 
 abbrev pub has_text : ℕ → Node → Bool
-has_text count (node.Literal n) = true
-has_text count (node.Variable x) = true
-has_text count node.ItemCount = true
-has_text count (node.Assign x t e) = true
-has_text count (node.Binary op a b) = true
-has_text count (node.Convert k e) = true
 has_text count (node.ApiRow r xs) = row_has_text count r
-has_text count (node.Block ts) = true
-has_text count (node.If e a b) = true
-has_text count (node.Forget e) = true
-has_text count (node.Declare x) = true
-has_text count node.NoTrees = true
-has_text count (node.MoreTrees t ts) = true
+has_text count _ = true
 
 -- the texts that nodes name are there
 pub record HasTexts (texts : List (List ℕ)) (nodes : List Node) : Type 0 where

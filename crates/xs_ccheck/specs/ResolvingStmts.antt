@@ -7,27 +7,26 @@ use Rattle.xs_csyn.specs.declared.tree.FileItem.{FileItem}
 use Rattle.xs_csyn.specs.View.{item_tree}
 use Rattle.xs_ccheck.specs.declared.resolve_nodes.Nodes.{Nodes}
 use Rattle.xs_ccheck.specs.Growth.{Keeps, functions_in, tree_in, trees_in}
-use Rattle.xs_ccheck.specs.Tree.{Function}
-use Rattle.xs_ccheck.specs.Typing.{Scope, Done_tree, Done_trees, item_name}
+use Rattle.xs_ccheck.specs.Tree.{Function, Tree, Trees}
+use Rattle.xs_ccheck.specs.Typing.{Done, Scope, item_name}
 
--- a statement stands at a node, and the scope behind it is known
-pub record IsStmt (x : ℕ) (old new : Nodes) (scope : Scope) (read : Result Done_tree Fault) : Type 0 where
-  pub means : read ≡ Ok (record { tree = tree_in new x; scope = scope })
+-- What was resolved stands at a node, where `at` sees it, and the scope behind it is known.
+pub record IsDone {T : Type 0} (at : Nodes → ℕ → T) (x : ℕ) (old new : Nodes) (scope : Scope) (read : Result (Done T) Fault) : Type 0 where
+  pub means : read ≡ Ok (record { tree = at new x; scope = scope })
   pub below : x < length new.nodes.items
   pub keeps : Keeps old new
 
-abbrev pub GivesStmt : Result ℕ Refuse → Nodes → Nodes → Scope → Result Done_tree Fault → Type 0
-GivesStmt (Ok x) old new scope read = IsStmt x old new scope read
-GivesStmt (Err e) old new scope read = Fails e read
+abbrev pub GivesDone : {T : Type 0} → (Nodes → ℕ → T) → Result ℕ Refuse → Nodes → Nodes → Scope → Result (Done T) Fault → Type 0
+GivesDone at (Ok x) old new scope read = IsDone at x old new scope read
+GivesDone at (Err e) old new scope read = Fails e read
 
-pub record IsStmts (x : ℕ) (old new : Nodes) (scope : Scope) (read : Result Done_trees Fault) : Type 0 where
-  pub means : read ≡ Ok (record { trees = trees_in new x; scope = scope })
-  pub below : x < length new.nodes.items
-  pub keeps : Keeps old new
+-- a statement
+abbrev pub GivesStmt : Result ℕ Refuse → Nodes → Nodes → Scope → Result (Done Tree) Fault → Type 0
+GivesStmt result old new scope read = GivesDone tree_in result old new scope read
 
-abbrev pub GivesStmts : Result ℕ Refuse → Nodes → Nodes → Scope → Result Done_trees Fault → Type 0
-GivesStmts (Ok x) old new scope read = IsStmts x old new scope read
-GivesStmts (Err e) old new scope read = Fails e read
+-- a list of statements
+abbrev pub GivesStmts : Result ℕ Refuse → Nodes → Nodes → Scope → Result (Done Trees) Fault → Type 0
+GivesStmts result old new scope read = GivesDone trees_in result old new scope read
 
 -- a function stands behind the others
 pub record IsFunction (old new : Nodes) (read : Result Function Fault) : Type 0 where

@@ -12,6 +12,7 @@ use Rattle.xs_values.specs.declared.operator.Op.{Op}
 use Rattle.xs_values.specs.declared.operator.Op.TheVariants as op
 use Rattle.xs_values.specs.Kinds.{common_kind}
 use Rattle.xs_values.specs.Numbers.{wrapped}
+use Rattle.xs_ctok.specs.Words.{is_interface_word}
 use Rattle.xs_csyn.specs.declared.tree.BinaryOp.{BinaryOp}
 use Rattle.xs_csyn.specs.declared.tree.BinaryOp.TheVariants as c
 use Rattle.xs_csyn.specs.declared.tree.CType.{CType}
@@ -42,20 +43,6 @@ abbrev pub not_allowed : ℕ → List ℕ → Fault
 not_allowed line word = fault line 807 word
 
 -- ---- names
-
--- words to which the XS interface gives a meaning, so that no variable has such a name
-abbrev pub interface_words : List (List ℕ)
-interface_words =
-    codes "ENTER" ∷ codes "FREETMPS" ∷ codes "LEAVE" ∷ codes "PUTBACK" ∷ codes "SAVETMPS" ∷ codes "SP" ∷ codes "SPAGAIN" ∷ codes "ST"
-    ∷ codes "SvIV" ∷ codes "XSRETURN" ∷ codes "XSRETURN_EMPTY" ∷ codes "XSRETURN_NO" ∷ codes "XSRETURN_UNDEF" ∷ codes "XSRETURN_YES"
-    ∷ codes "croak_xs_usage" ∷ codes "cv" ∷ codes "dSP" ∷ codes "dXSARGS" ∷ codes "dXSI32" ∷ codes "items" ∷ codes "ix"
-    ∷ codes "newXS_deffile" ∷ codes "sv_newmortal" ∷ codes "sv_setiv" ∷ []
-
-abbrev pub is_among : List (List ℕ) → List ℕ → Bool
-is_among words word = list_any (λ w. bytes_eq w word) words
-
-unfoldable pub is_interface_word : List ℕ → Bool
-is_interface_word word = is_among interface_words word
 
 -- the fault of a name that means nothing where it stands: the code is that of a word without meaning anywhere
 abbrev pub unknown : ℕ → ℕ → List ℕ → Fault
@@ -291,19 +278,15 @@ module _ (variables : List Local) where
 
 -- ---- statements
 
--- a statement with the scope behind it
-pub record Done_tree : Type 0 where
-  pub tree : Tree
+-- what a statement, or a list of statements, means, with the scope behind it
+pub record Done (T : Type 0) : Type 0 where
+  pub tree : T
   pub scope : Scope
 
-pub record Done_trees : Type 0 where
-  pub trees : Trees
-  pub scope : Scope
-
-abbrev pub done : Scope → Tree → Result Done_tree Fault
+abbrev pub done : {T : Type 0} → Scope → T → Result (Done T) Fault
 done scope t = Ok (record { tree = t; scope = scope })
 
-abbrev pub row_done : Scope → Row → Result Done_tree Fault
+abbrev pub row_done : Scope → Row → Result (Done Tree) Fault
 row_done scope row = done scope (Forget (ApiRow row NoTrees))
 
 -- the scope behind a block: the variables of the block are known no more, and their slots are not used again
@@ -324,7 +307,7 @@ is_some (Some a) = true
 unfoldable pub is_taken : List Local → List ℕ → Bool
 is_taken variables name = is_interface_word name || is_some (variable_of variables name)
 
-abbrev pub declared : ℕ → Scope → List ℕ → Option ValueType → Result Done_tree Fault
+abbrev pub declared : ℕ → Scope → List ℕ → Option ValueType → Result (Done Tree) Fault
 declared line scope name None = Err (types_differ line)
 declared line scope name (Some t) = cond (is_taken scope.variables name) (Err (declared_twice line name)) (done (with_variable scope name t) (Declare scope.slots))
 
@@ -337,7 +320,7 @@ is_condition type_of.Void = false
 abbrev pub a_condition : ℕ → Typed_tree → Result Tree Fault
 a_condition line e = cond (is_condition e.of_type) (Ok e.tree) (Err (types_differ line))
 
-abbrev pub registered_as : ℕ → Scope → List ℕ → List ℕ → Option ℕ → Result Done_tree Fault
+abbrev pub registered_as : ℕ → Scope → List ℕ → List ℕ → Option ℕ → Result (Done Tree) Fault
 registered_as line scope full function None = Err (fault line 802 function)
 registered_as line scope full function (Some f) = cond scope.in_boot (row_done scope (NewXs full f)) (Err (not_allowed line (codes "newXS_deffile")))
 
@@ -349,20 +332,20 @@ place_from i (n ∷ names) name = cond (bytes_eq n name) (Some i) (place_from (i
 unfoldable pub place_of : List (List ℕ) → List ℕ → Option ℕ
 place_of names name = place_from 0 names name
 
-abbrev pub entry : ℕ → Scope → Result Done_tree Fault
+abbrev pub entry : ℕ → Scope → Result (Done Tree) Fault
 entry line scope = cond scope.entered (Err (not_allowed line (codes "dXSARGS"))) (row_done (with_entry scope) Entry)
 
 module _ (names : List (List ℕ)) where
-  unfoldable pub perl : ℕ → Scope → PerlForm → Result Done_tree Fault
+  unfoldable pub perl : ℕ → Scope → PerlForm → Result (Done Tree) Fault
   perl line scope form.DxsArgs = entry line scope
   perl line scope form.XsReturnYes = row_done scope XsReturnYes
   perl line scope (form.NewXs full function) = registered_as line scope full function (place_of names function)
 
   unfoldable mutual
-    pub stmt : Scope → StmtTree → Result Done_tree Fault
+    pub stmt : Scope → StmtTree → Result (Done Tree) Fault
     stmt scope (syntax.Block line body) = do
       inner ← stmts scope body
-      done (behind_block scope inner.scope) (Block inner.trees)
+      done (behind_block scope inner.scope) (Block inner.tree)
     stmt scope (syntax.Declare line t name) = declared line scope name (type_named t)
     stmt scope (syntax.Effect line e) = do
       x ← expr scope.variables e
@@ -374,12 +357,12 @@ module _ (names : List (List ℕ)) where
       done branch.scope (If holds branch.tree (Block NoTrees))
     stmt scope (syntax.Perl line f) = perl line scope f
 
-    pub stmts : Scope → StmtTrees → Result Done_trees Fault
-    stmts scope NoStmts = Ok (record { trees = NoTrees; scope = scope })
+    pub stmts : Scope → StmtTrees → Result (Done Trees) Fault
+    stmts scope NoStmts = done scope NoTrees
     stmts scope (MoreStmts s all) = do
       first ← stmt scope s
       more ← stmts first.scope all
-      Ok (record { trees = MoreTrees first.tree more.trees; scope = more.scope })
+      done more.scope (MoreTrees first.tree more.tree)
 
 -- ---- files
 
@@ -394,8 +377,8 @@ is_boot_name name = starts_with nat_eq name boot_begin
 abbrev pub at_begin : List ℕ → Scope
 at_begin name = record { variables = []; slots = 0; entered = false; in_boot = is_boot_name name }
 
-abbrev pub function_done : FunctionTree → Done_trees → Function
-function_done f body = record { name = f.name; is_boot = is_boot_name f.name; slots = body.scope.slots; body = Block body.trees }
+abbrev pub function_done : FunctionTree → Done Trees → Function
+function_done f body = record { name = f.name; is_boot = is_boot_name f.name; slots = body.scope.slots; body = Block body.tree }
 
 -- whether a place is there and before another
 abbrev pub is_earlier : Option ℕ → ℕ → Bool
@@ -427,7 +410,3 @@ unfoldable pub typed_of : FileTree → Result Code Fault
 typed_of f = do
   all ← functions (map item_name f.items) 0 [] f.items
   Ok (record { functions = all })
-
--- how many boot functions there are
-abbrev pub boot_count : List Function → ℕ
-boot_count all = count_by (λ f. f.is_boot) all

@@ -11,4 +11,4 @@ mod resolve_stmts;
 
 pub use code::{Callable, FunctionNode, Node, RowNode, Typed, ValueType};
 pub use laws::types_do_not_depend_on_lines;
-pub use resolve::{check_file, has_one_boot};
+pub use resolve::check_file;

@@ -132,16 +132,3 @@ pub fn check_file(alloc: Global, f: CFile) -> Result<Typed, Refuse>
     let nodes = resolved(alloc, f.items.as_slice())?;
     Ok(finished(nodes))
 }
-
-/// Whether a file has exactly one boot function.
-pub fn has_one_boot(typed: &Typed) -> bool
-    ensures { IsTrue result ↔ (spec.boot_count (code_of typed.now).functions ≡ 1) }
-{
-    let mut count = 0usize;
-    for f in &typed.functions {
-        if f.is_boot {
-            count += 1;
-        }
-    }
-    count == 1
-}

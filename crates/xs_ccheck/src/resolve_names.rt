@@ -11,6 +11,7 @@ use std::alloc::Global;
 use std::marker::Model;
 use xs_base::{Bytes, Fault, FileOf, Memory, Refuse};
 use xs_csyn::CType;
+use xs_ctok::is_interface_word;
 use xs_values::Kind;
 
 /// What an operand of a row has to be.
@@ -26,52 +27,6 @@ pub struct Local {
     pub name: Bytes,
     pub of_type: ValueType,
     pub slot: u32,
-}
-
-// Words to which the XS interface gives a meaning, so that no variable has such a name (perlxs, perlapi).
-const INTERFACE_WORDS: [&str; 24] = [
-    "ENTER",
-    "FREETMPS",
-    "LEAVE",
-    "PUTBACK",
-    "SAVETMPS",
-    "SP",
-    "SPAGAIN",
-    "ST",
-    "SvIV",
-    "XSRETURN",
-    "XSRETURN_EMPTY",
-    "XSRETURN_NO",
-    "XSRETURN_UNDEF",
-    "XSRETURN_YES",
-    "croak_xs_usage",
-    "cv",
-    "dSP",
-    "dXSARGS",
-    "dXSI32",
-    "items",
-    "ix",
-    "newXS_deffile",
-    "sv_newmortal",
-    "sv_setiv",
-];
-
-fn is_among(words: &[&str], word: &[u8]) -> bool
-    ensures { result ≡ spec.is_among (map (λ w. w.now) words.now) word.now }
-{
-    for w in words {
-        if w.as_bytes() == word {
-            return true;
-        }
-    }
-    false
-}
-
-#[tactic(auto, unfolding(crate::specs::Typing::is_interface_word))]
-fn is_interface_word(word: &[u8]) -> bool
-    ensures { result ≡ spec.is_interface_word word.now }
-{
-    is_among(&INTERFACE_WORDS, word)
 }
 
 // ---- faults

@@ -62,7 +62,7 @@ fn conditional(nodes: &mut Nodes, test: u32, branch: u32) -> Result<u32, Refuse>
 }
 
 fn no_stmts(nodes: &mut Nodes) -> Result<u32, Refuse>
-    ensures { (scope : spec.Scope) → GivesStmts result nodes.old nodes.new scope (Ok (record { trees = NoTrees; scope = scope })) }
+    ensures { (scope : spec.Scope) → GivesStmts result nodes.old nodes.new scope (spec.done scope NoTrees) }
 {
     let place = nodes.add(Node::NoTrees)?;
     Ok(place)
@@ -71,7 +71,7 @@ fn no_stmts(nodes: &mut Nodes) -> Result<u32, Refuse>
 fn more_stmts(nodes: &mut Nodes, first: u32, others: u32) -> Result<u32, Refuse>
     requires first_in { first < length nodes.old.nodes.items }
     requires others_in { others < length nodes.old.nodes.items }
-    ensures { (scope : spec.Scope) → GivesStmts result nodes.old nodes.new scope (Ok (record { trees = MoreTrees (tree_in nodes.old first) (trees_in nodes.old others); scope = scope })) }
+    ensures { (scope : spec.Scope) → GivesStmts result nodes.old nodes.new scope (spec.done scope (MoreTrees (tree_in nodes.old first) (trees_in nodes.old others))) }
 {
     let place = nodes.add(Node::MoreTrees(first, others))?;
     Ok(place)

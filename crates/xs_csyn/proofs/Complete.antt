@@ -1,57 +1,64 @@
 -- What is an expression by the rules is read.
-use Rattle.std.proofs.Common.{◌≡◌, ℕ, zero, suc, ◌+◌, ◌<◌, ◌≤◌, max, Bool, true, false, if◌then◌else◌, ◌&&◌, not, nat_lt, List, [], ◌∷◌, ◌++◌, length, append_assoc, Some, None, Ok, refl, ap, sym, ◌∙◌, add-one, arith}
+use Rattle.std.proofs.Common.{◌≡◌, ℕ, zero, suc, ◌+◌, ◌<◌, ◌≤◌, max, Bool, true, false, if◌then◌else◌, ◌&&◌, List, [], ◌∷◌, ◌++◌, length, append_assoc, Some, None, Ok, refl, ap, ◌∙◌, add-one, arith}
 use Rattle.std.specs.Prelude.{codes}
 use Rattle.std.specs.Str.{bytes_eq}
+use Rattle.std.proofs.lemmas.Bool.{and_left, and_parts, both_ways, false_from_ne_true, le-ltb, not-true}
 use Rattle.std.proofs.lemmas.Slice.Eq.{bytes_eq-Decides}
 use Rattle.xs_base.specs.declared.place.FileOf.{FileOf}
 use Rattle.xs_csyn.specs.declared.node.Level.{Level}
 use Rattle.xs_csyn.specs.declared.node.Level.TheVariants as level
-use Rattle.xs_csyn.specs.declared.token.Sort.{Sort}
-use Rattle.xs_csyn.specs.declared.token.Sort.TheVariants as sort
-use Rattle.xs_csyn.specs.declared.token.Token.{Token}
+use Rattle.xs_ctok.specs.declared.token.Sort.{Sort}
+use Rattle.xs_ctok.specs.declared.token.Sort.TheVariants as sort
+use Rattle.xs_ctok.specs.declared.token.Token.{Token}
 use Rattle.xs_csyn.specs.declared.tree.BinaryOp.{BinaryOp}
 use Rattle.xs_csyn.specs.declared.tree.BinaryOp.TheVariants as op
 use Rattle.xs_csyn.specs.declared.tree.CType.{CType}
 use Rattle.xs_csyn.specs.Tree as t
 use Rattle.xs_csyn.specs.Tree.{ExprTree, ExprTrees, PlaceTree, exprs_of}
-use Rattle.xs_csyn.specs.Words.{is_among, no_names, type_words}
-use Rattle.xs_csyn.specs.Input.{Input, Outcome, and_then, head_is, is_sign, is_sign_sort, is_key, is_key_sort, is_name_by, is_type_word, sees, sees_type, sees_name, line, line_at, next, after, expect, sort_of, spelling, left, a_type_word}
-use Rattle.xs_csyn.specs.Exprs.{Found, FoundAll, expr, whole, assignment, comparison, sum, unary, cast, climb, named, arguments, list, list_from, operator, place_of, count_stars, behind_stars, stars, a_type}
+use Rattle.xs_ctok.specs.Words.{no_names, type_words}
+use Rattle.xs_base.specs.Names.{is_among}
+use Rattle.xs_csyn.specs.Input.{Input, Outcome, is_sign, is_sign_sort, is_key, is_key_sort, is_name_by, is_type_word, sees, sees_type, sees_name, line, line_at, next, after, expect, sort_of, spelling, left, a_type_word}
+use Rattle.xs_base.specs.Readers.{and_then, head_is}
+use Rattle.xs_csyn.specs.Exprs.{Found, FoundAll, expr, at_level, whole, assignment, comparison, sum, unary, cast, climb, named, arguments, list, list_from, operator, place_of, count_stars, behind_stars, stars, a_type}
 use Rattle.xs_csyn.specs.Heights.{height, heights, place_height}
 use Rattle.xs_csyn.specs.Grammar as g
-use Rattle.xs_csyn.specs.Grammar.{Whole, Comparison, Sum, Unary, Arguments, APlace, AType, Stars, Is, MayName, line_of, line_of_place}
+use Rattle.xs_csyn.specs.Grammar.{Whole, Comparison, Sum, Unary, Arguments, APlace, AType, Stars, Is, IsKey, MayName, line_of, line_of_place}
 use Rattle.xs_csyn.proofs.Sound.{unary_line}
-use Rattle.xs_csyn.proofs.Values.{is_among-fewer}
+use Rattle.xs_ctok.proofs.Values.{is_among-fewer}
 use Rattle.xs_csyn.proofs.SoundFiles.{place_first, sum_line}
 
--- ---- marks
+-- ---- marks and key words
 
-same_bytes : (xs ys : List ℕ) → bytes_eq xs ys ≡ true → xs ≡ ys
-same_bytes xs ys e = (bytes_eq-Decides xs ys).0 e
+sign_only : (s : Sort) → is_sign_sort s ≡ true → s ≡ sort.Sign
+sign_only sort.Sign e = refl
+sign_only s e = absurd cc
 
-other_mark : (s : Sort) (text m n : List ℕ) → (is_sign_sort s && bytes_eq text m) ≡ true → (is_sign_sort s && bytes_eq text n) ≡ bytes_eq m n
-other_mark sort.Sign text m n e = ap (λ x. bytes_eq x n) (same_bytes text m e)
-other_mark sort.Key text m n e = absurd cc
-other_mark sort.Name text m n e = absurd cc
-other_mark (sort.Numeral v) text m n e = absurd cc
-other_mark sort.OtherNumeral text m n e = absurd cc
-other_mark sort.Quoted text m n e = absurd cc
+pub key_only : (s : Sort) → is_key_sort s ≡ true → s ≡ sort.Key
+key_only sort.Key e = refl
+key_only s e = absurd cc
+
+-- a token of one sort that is spelt so
+abbrev pub IsOf : Sort → List ℕ → Token → Type 0
+IsOf s text u = (u.sort ≡ s) × (u.text ≡ text)
+
+is_mark_of : (m : List ℕ) (u : Token) → Is m u → IsOf sort.Sign m u
+is_mark_of m u is = let h = and_parts (is_sign_sort u.sort) (bytes_eq u.text m) is in (sign_only u.sort h.0, (bytes_eq-Decides u.text m).0 h.1)
+
+pub is_key_of : (word : List ℕ) (u : Token) → IsKey word u → IsOf sort.Key word u
+is_key_of word u is = let h = and_parts (is_key_sort u.sort) (bytes_eq u.text word) is in (key_only u.sort h.0, (bytes_eq-Decides u.text word).0 h.1)
 
 -- a token that is one mark is another only if they are the same
 pub marks : (m n : List ℕ) (u : Token) → Is m u → is_sign n u ≡ bytes_eq m n
-marks m n u = other_mark u.sort u.text m n
+marks m n u is = let k = is_mark_of m u is in ap (λ s. is_sign_sort s && bytes_eq u.text n) k.0 ∙ ap (λ x. bytes_eq x n) k.1
 
-name_no_mark : (s : Sort) (text m : List ℕ) → is_name_by s text ≡ true → (is_sign_sort s && bytes_eq text m) ≡ false
-name_no_mark sort.Name text m e = refl
-name_no_mark sort.Key text m e = refl
-name_no_mark sort.Sign text m e = absurd cc
-name_no_mark (sort.Numeral v) text m e = absurd cc
-name_no_mark sort.OtherNumeral text m e = absurd cc
-name_no_mark sort.Quoted text m e = absurd cc
+no_sign_by_name : (s : Sort) (text : List ℕ) → is_name_by s text ≡ true → is_sign_sort s ≡ false
+no_sign_by_name sort.Name text e = refl
+no_sign_by_name sort.Key text e = refl
+no_sign_by_name s text e = absurd cc
 
 -- a name is no mark
 pub names_no_mark : (m : List ℕ) (u : Token) → MayName u → is_sign m u ≡ false
-names_no_mark m u e = name_no_mark u.sort u.text m e
+names_no_mark m u e = and_left (is_sign_sort u.sort) (bytes_eq u.text m) (no_sign_by_name u.sort u.text e)
 
 -- the next token is not this mark
 abbrev pub Stop : List ℕ → List Token → Type 0
@@ -80,12 +87,7 @@ parts_at u us is = stops_at (codes ",") u us is refl refl refl refl
 
 height_pos : (a : ExprTree) → 0 < height a
 height_pos (t.Var l x) = omega arith
-height_pos (t.Num l n) = omega arith
-height_pos (t.Str l n) = omega arith
-height_pos (t.Call l x ts) = omega arith
-height_pos (t.Set l p a) = omega arith
-height_pos (t.Two l o a b) = omega arith
-height_pos (t.Cast l to a) = omega arith
+height_pos a = omega arith
 
 abbrev pub found_of : ExprTree → Found
 found_of a = record { tree = a; height = height a }
@@ -140,49 +142,19 @@ mutual
 
 -- ---- what an expression begins with
 
-no_key_by_name : (word : List ℕ) → is_among no_names word ≡ true → (s : Sort) (text : List ℕ) → is_name_by s text ≡ true → (is_key_sort s && bytes_eq text word) ≡ false
-no_key_by_name word among sort.Name text e = refl
-no_key_by_name word among sort.Key text e = by (bytes_eq text word) refl
-  where
-    by : (b : Bool) → bytes_eq text word ≡ b → b ≡ false
-    by true same = absurd (let no_more : true ≡ false = sym among ∙ ap (is_among no_names) (sym (same_bytes text word same)) ∙ named_not (is_among no_names text) e in cc)
-      where
-        named_not : (b : Bool) → not b ≡ true → b ≡ false
-        named_not true h = absurd cc
-        named_not false h = refl
-    by false same = refl
-no_key_by_name word among sort.Sign text e = absurd cc
-no_key_by_name word among (sort.Numeral v) text e = absurd cc
-no_key_by_name word among sort.OtherNumeral text e = absurd cc
-no_key_by_name word among sort.Quoted text e = absurd cc
+-- a name is no key word of those that are no names
+no_key_by_name : (test : List ℕ → Bool) → ((text : List ℕ) → is_among no_names text ≡ false → test text ≡ false) → (s : Sort) (text : List ℕ) → is_name_by s text ≡ true → (is_key_sort s && test text) ≡ false
+no_key_by_name test none sort.Name text e = refl
+no_key_by_name test none sort.Key text e = none text (not-true (is_among no_names text) e)
+no_key_by_name test none s text e = absurd cc
 
-no_type_by_name : (s : Sort) (text : List ℕ) → is_name_by s text ≡ true → (is_key_sort s && is_among type_words text) ≡ false
-no_type_by_name sort.Name text e = refl
-no_type_by_name sort.Key text e = is_among-fewer no_names type_words text refl (named_not (is_among no_names text) e)
-  where
-    named_not : (b : Bool) → not b ≡ true → b ≡ false
-    named_not true h = absurd cc
-    named_not false h = refl
-no_type_by_name sort.Sign text e = absurd cc
-no_type_by_name (sort.Numeral v) text e = absurd cc
-no_type_by_name sort.OtherNumeral text e = absurd cc
-no_type_by_name sort.Quoted text e = absurd cc
+other_word : (word : List ℕ) → is_among no_names word ≡ true → (text : List ℕ) → is_among no_names text ≡ false → bytes_eq text word ≡ false
+other_word word among text none =
+    false_from_ne_true (bytes_eq text word) (λ same. both_ways (is_among no_names text) none (ap (is_among no_names) ((bytes_eq-Decides text word).0 same) ∙ among))
 
-no_key_by_mark : (s : Sort) (text m word : List ℕ) → (is_sign_sort s && bytes_eq text m) ≡ true → (is_key_sort s && bytes_eq text word) ≡ false
-no_key_by_mark sort.Sign text m word e = refl
-no_key_by_mark sort.Key text m word e = absurd cc
-no_key_by_mark sort.Name text m word e = absurd cc
-no_key_by_mark (sort.Numeral v) text m word e = absurd cc
-no_key_by_mark sort.OtherNumeral text m word e = absurd cc
-no_key_by_mark sort.Quoted text m word e = absurd cc
-
-no_type_by_mark : (s : Sort) (text m : List ℕ) → (is_sign_sort s && bytes_eq text m) ≡ true → (is_key_sort s && is_among type_words text) ≡ false
-no_type_by_mark sort.Sign text m e = refl
-no_type_by_mark sort.Key text m e = absurd cc
-no_type_by_mark sort.Name text m e = absurd cc
-no_type_by_mark (sort.Numeral v) text m e = absurd cc
-no_type_by_mark sort.OtherNumeral text m e = absurd cc
-no_type_by_mark sort.Quoted text m e = absurd cc
+-- a mark is no key word
+pub no_key_by_mark : (m : List ℕ) (u : Token) → Is m u → (test : List ℕ → Bool) → (is_key_sort u.sort && test u.text) ≡ false
+no_key_by_mark m u is test = ap (λ s. is_key_sort s && test u.text) (is_mark_of m u is).0
 
 -- what the first token is not
 pub record Starts (ts : List Token) : Type 0 where
@@ -197,8 +169,8 @@ starts_by_name n ts e = record {
   no_close = names_no_mark (codes ")") n e;
   no_block = names_no_mark (codes "{") n e;
   no_end = names_no_mark (codes "}") n e;
-  no_if = no_key_by_name (codes "if") refl n.sort n.text e;
-  no_type = no_type_by_name n.sort n.text e;
+  no_if = no_key_by_name (λ text. bytes_eq text (codes "if")) (other_word (codes "if") refl) n.sort n.text e;
+  no_type = no_key_by_name (is_among type_words) (λ text. is_among-fewer no_names type_words text refl) n.sort n.text e;
 }
 
 pub starts_by_mark : (m : List ℕ) (u : Token) (ts : List Token) → Is m u → bytes_eq m (codes ")") ≡ false → bytes_eq m (codes "{") ≡ false → bytes_eq m (codes "}") ≡ false → Starts (u ∷ ts)
@@ -206,32 +178,29 @@ starts_by_mark m u ts is a b c = record {
   no_close = marks m (codes ")") u is ∙ a;
   no_block = marks m (codes "{") u is ∙ b;
   no_end = marks m (codes "}") u is ∙ c;
-  no_if = no_key_by_mark u.sort u.text m (codes "if") is;
-  no_type = no_type_by_mark u.sort u.text m is;
+  no_if = no_key_by_mark m u is (λ text. bytes_eq text (codes "if"));
+  no_type = no_key_by_mark m u is (is_among type_words);
 }
 
-starts_by_int : (u : Token) (ts : List Token) (value : ℕ) → u.sort ≡ sort.Numeral value → Starts (u ∷ ts)
-starts_by_int u ts value e = record {
-  no_close = ap (λ s. is_sign_sort s && bytes_eq u.text (codes ")")) e;
-  no_block = ap (λ s. is_sign_sort s && bytes_eq u.text (codes "{")) e;
-  no_end = ap (λ s. is_sign_sort s && bytes_eq u.text (codes "}")) e;
-  no_if = ap (λ s. is_key_sort s && bytes_eq u.text (codes "if")) e;
-  no_type = ap (λ s. is_key_sort s && is_among type_words u.text) e;
+starts_by_sort : (s : Sort) (u : Token) (ts : List Token) → u.sort ≡ s → is_sign_sort s ≡ false → is_key_sort s ≡ false → Starts (u ∷ ts)
+starts_by_sort s u ts e no_sign no_key = record {
+  no_close = no_mark (codes ")");
+  no_block = no_mark (codes "{");
+  no_end = no_mark (codes "}");
+  no_if = no_word (λ text. bytes_eq text (codes "if"));
+  no_type = no_word (is_among type_words);
 }
+  where
+    no_mark : (m : List ℕ) → is_sign m u ≡ false
+    no_mark m = and_left (is_sign_sort u.sort) (bytes_eq u.text m) (ap is_sign_sort e ∙ no_sign)
 
-starts_by_text : (u : Token) (ts : List Token) → u.sort ≡ sort.Quoted → Starts (u ∷ ts)
-starts_by_text u ts e = record {
-  no_close = ap (λ s. is_sign_sort s && bytes_eq u.text (codes ")")) e;
-  no_block = ap (λ s. is_sign_sort s && bytes_eq u.text (codes "{")) e;
-  no_end = ap (λ s. is_sign_sort s && bytes_eq u.text (codes "}")) e;
-  no_if = ap (λ s. is_key_sort s && bytes_eq u.text (codes "if")) e;
-  no_type = ap (λ s. is_key_sort s && is_among type_words u.text) e;
-}
+    no_word : (test : List ℕ → Bool) → (is_key_sort u.sort && test u.text) ≡ false
+    no_word test = and_left (is_key_sort u.sort) (test u.text) (ap is_key_sort e ∙ no_key)
 
 unary_starts : {a : ExprTree} {ts us : List Token} → Unary a ts us → Starts ts
 unary_starts (g.cast {t = u} {ts = ts} op ty cl x) = starts_by_mark (codes "(") u ts op refl refl refl
-unary_starts (g.int {value = value} {t = u} {ts = ts} k) = starts_by_int u ts value k
-unary_starts (g.text {t = u} {ts = ts} k) = starts_by_text u ts k
+unary_starts (g.int {value = value} {t = u} {ts = ts} k) = starts_by_sort (sort.Numeral value) u ts k refl refl
+unary_starts (g.text {t = u} {ts = ts} k) = starts_by_sort sort.Quoted u ts k refl refl
 unary_starts (g.name {t = n} {ts = ts} e) = starts_by_name n ts e
 unary_starts (g.call {t = n} {u = u} {ts = ts} e op x) = starts_by_name n (u ∷ ts) e
 
@@ -279,20 +248,11 @@ module _ (file : FileOf) (last : ℕ) where
   unfolding a_type a_type_word sees_type stars next spelling
   type_done (g.type_word {t = u} {ts = ts} e s) stop = let r = stars_read s stop in rw (e, r.count, r.rest) refl
 
-  inner_unary : (room : ℕ) (a : ExprTree) (ts us : List Token) → height a ≤ room → ((m : ℕ) → height a ≤ m + 1 → unary (expr m) (at ts) ≡ Ok (found_of a, at us)) → expr room level.Unary (at ts) ≡ Ok (found_of a, at us)
+  -- an expression of a level stands one level down, where there is room for it
+  inner_done : (l : Level) (room : ℕ) (a : ExprTree) (ts us : List Token) → height a ≤ room → ((m : ℕ) → height a ≤ m + 1 → at_level (expr m) m l (at ts) ≡ Ok (found_of a, at us)) → expr room l (at ts) ≡ Ok (found_of a, at us)
   unfolding expr
-  inner_unary zero a ts us h done = absurd (omega (arith, height_pos a))
-  inner_unary (suc m) a ts us h done = done m (omega arith)
-
-  inner_sum : (room : ℕ) (a : ExprTree) (ts us : List Token) → height a ≤ room → ((m : ℕ) → height a ≤ m + 1 → sum (expr m) m (at ts) ≡ Ok (found_of a, at us)) → expr room level.Sum (at ts) ≡ Ok (found_of a, at us)
-  unfolding expr
-  inner_sum zero a ts us h done = absurd (omega (arith, height_pos a))
-  inner_sum (suc m) a ts us h done = done m (omega arith)
-
-  inner_whole : (room : ℕ) (a : ExprTree) (ts us : List Token) → height a ≤ room → ((m : ℕ) → height a ≤ m + 1 → whole (expr m) m (at ts) ≡ Ok (found_of a, at us)) → expr room level.Whole (at ts) ≡ Ok (found_of a, at us)
-  unfolding expr
-  inner_whole zero a ts us h done = absurd (omega (arith, height_pos a))
-  inner_whole (suc m) a ts us h done = done m (omega arith)
+  inner_done l zero a ts us h done = absurd (omega (arith, height_pos a))
+  inner_done l (suc m) a ts us h done = done m (omega arith)
 
   -- reading has come to a chain's tree, and this many operators may still follow
   abbrev Reaches : Outcome Found → ℕ → Level → ℕ → ExprTree → List Token → Type 0
@@ -320,9 +280,6 @@ module _ (file : FileOf) (last : ℕ) where
   unfolding operator sees
   not_equal_next u us is = rw is refl
 
-  low : (m h : ℕ) → h ≤ m → nat_lt m h ≡ false
-  low m h le = grind arith
-
   -- one more operator
   goes_on : (m : ℕ) (operands : Level) (o : BinaryOp) (line : ℕ) (a b : ExprTree) (u : Token) (us vs : List Token) (read : Outcome Found) → operator operands (at (u ∷ us)) ≡ Some o → height (t.Two line o a b) ≤ m + 1
       → expr m operands (at us) ≡ Ok (found_of b, at vs) → Reaches read m operands line a (u ∷ us) → Reaches read m operands line (t.Two line o a b) vs
@@ -331,7 +288,7 @@ module _ (file : FileOf) (last : ℕ) where
     where
       from : (n : ℕ) → m + 1 ≤ n + height a → read ≡ climb (expr m) m operands line n (found_of a) (at (u ∷ us)) → Reaches read m operands line (t.Two line o a b) vs
       from zero le eq = absurd (omega arith)
-      from (suc n) le eq = (n, omega arith, eq ∙ rw (e, low m (height a) (omega arith), r) refl)
+      from (suc n) le eq = (n, omega arith, eq ∙ rw (e, le-ltb m (height a) (omega arith), r) refl)
 
   finish : (read : Outcome Found) (m : ℕ) (operands : Level) (line : ℕ) (a : ExprTree) (us : List Token) → operator operands (at us) ≡ None → Reaches read m operands line a us → read ≡ Ok (found_of a, at us)
   finish read m operands line a us e r = r.2 ∙ stops m r.0 operands line a us e
@@ -353,10 +310,7 @@ module _ (file : FileOf) (last : ℕ) where
   unfolding unary after sees sort_of sees_name line
   named_by m sort.Name x l ts e = refl
   named_by m sort.Key x l ts e = rw e refl
-  named_by m sort.Sign x l ts e = absurd cc
-  named_by m (sort.Numeral v) x l ts e = absurd cc
-  named_by m sort.OtherNumeral x l ts e = absurd cc
-  named_by m sort.Quoted x l ts e = absurd cc
+  named_by m s x l ts e = absurd cc
 
   -- the first operand, and what it stops at
   abbrev FirstOf : ℕ → List Token → Type 0
@@ -375,7 +329,7 @@ module _ (file : FileOf) (last : ℕ) where
       → line_at last ts ≡ line_of_place p → height (t.Set (line_of_place p) p a) ≤ m + 1 → expr m level.Whole (at us) ≡ Ok (found_of a, at vs) → whole (expr m) m (at ts) ≡ Ok (found_of (t.Set (line_of_place p) p a), at vs)
   unfolding whole assignment sees line next
   set_done m p a u v ts us vs r is place same first h value =
-      rw (r, is, place, low m (height u) (omega arith), value, same, first) refl
+      rw (r, is, place, le-ltb m (height u) (omega arith), value, same, first) refl
 
   -- one argument
   one_done : (m : ℕ) (a : ExprTree) (v : Token) (ts us : List Token) → Stop (codes ")") ts → Is (codes ")") v → 0 < length ts → expr m level.Whole (at ts) ≡ Ok (found_of a, at (v ∷ us))
@@ -389,7 +343,7 @@ module _ (file : FileOf) (last : ℕ) where
 
     unary_done : {a : ExprTree} {ts us : List Token} → Unary a ts us → (m : ℕ) → height a ≤ m + 1 → Stop (codes "(") us → unary (expr m) (at ts) ≡ Ok (found_of a, at us)
     unary_done (g.cast {to = to} {a = a} {t = n} {u = u} {ts = ts} {us = us} {vs = vs} op ty cl x) m h stop =
-        rw (op, type_done ty (marks (codes ")") (codes "*") u cl), cl, inner_unary m a us vs (omega arith) (λ k h'. unary_done x k h' stop)) refl
+        rw (op, type_done ty (marks (codes ")") (codes "*") u cl), cl, inner_done level.Unary m a us vs (omega arith) (λ k h'. unary_done x k h' stop)) refl
     unary_done (g.int {value = value} {t = n} {ts = ts} k) m h stop = rw k refl
     unary_done (g.text {t = n} {ts = ts} k) m h stop = rw k refl
     unary_done (g.name {t = n} {ts = ts} e) m h stop = named_by m n.sort n.text n.line ts e ∙ rw stop refl
@@ -399,14 +353,14 @@ module _ (file : FileOf) (last : ℕ) where
     sum_reach : {a : ExprTree} {ts us : List Token} → Sum a ts us → (m : ℕ) → height a ≤ m + 1 → Stop (codes "(") us → Reaches (sum (expr m) m (at ts)) m level.Unary (line_of a) a us
     sum_reach (g.add {a = a} {b = b} {t = u} {ts = ts} {us = us} {vs = vs} x is y) m h stop =
         goes_on m level.Unary op.Add (line_of a) a b u us vs (sum (expr m) m (at ts)) (plus_next u us is) h
-        (inner_unary m b us vs (omega arith) (λ n h'. unary_done y n h' stop)) (sum_reach x m (omega arith) (marks (codes "+") (codes "(") u is))
+        (inner_done level.Unary m b us vs (omega arith) (λ n h'. unary_done y n h' stop)) (sum_reach x m (omega arith) (marks (codes "+") (codes "(") u is))
     sum_reach (g.is_unary {a = a} {ts = ts} {us = us} x) m h stop = (m, omega (arith, height_pos a), rw (unary_done x m h stop, unary_line a ts us last x) refl)
 
     comparison_reach : {a : ExprTree} {ts us : List Token} → Comparison a ts us → (m : ℕ) → height a ≤ m + 1 → Stop (codes "(") us → Stop (codes "+") us
         → Reaches (and_then (sum (expr m) m (at ts)) (λ left. climb (expr m) m level.Sum (line_at last ts) m left)) m level.Sum (line_of a) a us
     comparison_reach (g.not_equal {a = a} {b = b} {t = u} {ts = ts} {us = us} {vs = vs} x is y) m h stop plus =
         goes_on m level.Sum op.NotEqual (line_of a) a b u us vs (and_then (sum (expr m) m (at ts)) (λ left. climb (expr m) m level.Sum (line_at last ts) m left)) (not_equal_next u us is) h
-        (inner_sum m b us vs (omega arith) (λ n h'. sum_finish b us vs n plus (sum_reach y n h' stop)))
+        (inner_done level.Sum m b us vs (omega arith) (λ n h'. sum_finish b us vs n plus (sum_reach y n h' stop)))
         (comparison_reach x m (omega arith) (marks (codes "!=") (codes "(") u is) (marks (codes "!=") (codes "+") u is))
     comparison_reach (g.is_sum {a = a} {ts = ts} {us = us} x) m h stop plus = (m, omega (arith, height_pos a), rw (sum_finish a ts us m plus (sum_reach x m h stop), sum_line a ts us last x) refl)
 
@@ -422,7 +376,7 @@ module _ (file : FileOf) (last : ℕ) where
     place_done (g.variable {t = n} {ts = ts} e) m h stop = (t.Var n.line n.text, named_by m n.sort n.text n.line ts e ∙ rw stop refl, refl, refl)
     place_done (g.st {a = a} {t = n} {u = u} {v = v} {ts = ts} {us = us} e st op x cl) m h stop = (
       t.Call n.line n.text (t.MoreExprs a t.NoExprs),
-      named_by m n.sort n.text n.line (u ∷ ts) e ∙ rw (op, one_done m a v ts us ((whole_starts x).no_close) cl (omega (arith, whole_shrinks x)) (inner_whole m a ts (v ∷ us) (omega arith) (λ k h'. whole_done x k h' (closes v us cl))), max_none (height a)) refl,
+      named_by m n.sort n.text n.line (u ∷ ts) e ∙ rw (op, one_done m a v ts us ((whole_starts x).no_close) cl (omega (arith, whole_shrinks x)) (inner_done level.Whole m a ts (v ∷ us) (omega arith) (λ k h'. whole_done x k h' (closes v us cl))), max_none (height a)) refl,
       ap (λ b. if b then Some (t.StPlace n.line a) else None) st,
       ap (λ k. k + 1) (max_none (height a)),
     )
@@ -430,7 +384,7 @@ module _ (file : FileOf) (last : ℕ) where
     pub whole_done : {a : ExprTree} {ts us : List Token} → Whole a ts us → (m : ℕ) → height a ≤ m + 1 → StopsWhole us → whole (expr m) m (at ts) ≡ Ok (found_of a, at us)
     whole_done (g.set {p = p} {a = a} {t = v} {ts = ts} {us = us} {vs = vs} pl is x) m h stop =
         let r = place_done pl m (omega arith) (marks (codes "=") (codes "(") v is) in
-        set_done m p a r.0 v ts us vs r.1 is r.2 r.3 (place_first p ts (v ∷ us) last pl) h (inner_whole m a us vs (omega arith) (λ n h'. whole_done x n h' stop))
+        set_done m p a r.0 v ts us vs r.1 is r.2 r.3 (place_first p ts (v ∷ us) last pl) h (inner_done level.Whole m a us vs (omega arith) (λ n h'. whole_done x n h' stop))
     whole_done (g.is_comparison {a = a} {ts = ts} {us = us} x) m h stop =
         by_sum m ts (first_of_comparison x m h stop.no_call stop.no_set)
         ∙ finish _ m level.Sum (line_of a) a us (no_not_equal us stop.no_not_equal) (comparison_reach x m h stop.no_call stop.no_plus)
@@ -443,9 +397,9 @@ module _ (file : FileOf) (last : ℕ) where
         → list_from (expr m) n acc (at ts) ≡ Ok (record { trees = acc.trees ++ list_of all; height = max acc.height (heights all) }, at us)
     more_done (g.last x cl) m h zero len acc = absurd (omega (arith, whole_shrinks x))
     more_done (g.last {a = a} {u = u} {ts = ts} {us = us} x cl) m h (suc n) len acc =
-        rw (inner_whole m a ts (u ∷ us) (omega arith) (λ k h'. whole_done x k h' (closes u us cl)), marks (codes ")") (codes ",") u cl, cl, max_none (height a)) refl
+        rw (inner_done level.Whole m a ts (u ∷ us) (omega arith) (λ k h'. whole_done x k h' (closes u us cl)), marks (codes ")") (codes ",") u cl, cl, max_none (height a)) refl
     more_done (g.more x cm y) m h zero len acc = absurd (omega (arith, whole_shrinks x))
     more_done (g.more {a = a} {all = all} {u = u} {ts = ts} {us = us} {vs = vs} x cm y) m h (suc n) len acc =
-        rw (inner_whole m a ts (u ∷ us) (omega arith) (λ k h'. whole_done x k h' (parts_at u us cm)), cm)
+        rw (inner_done level.Whole m a ts (u ∷ us) (omega arith) (λ k h'. whole_done x k h' (parts_at u us cm)), cm)
         (more_done y m (omega arith) n (omega (arith, whole_shrinks x)) (record { trees = acc.trees ++ a ∷ []; height = max acc.height (height a) })
         ∙ rw (append_assoc acc.trees (a ∷ []) (list_of all), max_assoc acc.height (height a) (heights all)) refl)

@@ -2,21 +2,21 @@
 use Rattle.std.proofs.Common.{◌≡◌, ℕ, zero, suc, ◌<◌, ◌≤◌, true, false, ◌&&◌, ◌==◌, List, [], ◌∷◌, ◌++◌, length, append_assoc, append-nil, Result, Ok, refl, ap, ◌∙◌, arith}
 use Rattle.std.specs.Prelude.{codes}
 use Rattle.std.specs.Str.{bytes_eq}
-use Rattle.std.proofs.lemmas.Slice.Eq.{bytes_eq-Decides}
+use Rattle.std.proofs.lemmas.Bool.{and_parts}
 use Rattle.xs_base.specs.declared.fault.Refuse.{Refuse}
 use Rattle.xs_base.specs.declared.place.FileOf.{FileOf}
 use Rattle.xs_base.specs.Reading.{GivesBy}
-use Rattle.xs_csyn.specs.declared.token.Sort.{Sort}
-use Rattle.xs_csyn.specs.declared.token.Sort.TheVariants as sort
-use Rattle.xs_csyn.specs.declared.token.Token.{Token}
+use Rattle.xs_ctok.specs.declared.token.Token.{Token}
 use Rattle.xs_csyn.specs.declared.tree.CFile.{CFile}
 use Rattle.xs_csyn.specs.declared.tree.CType.{CType}
 use Rattle.xs_csyn.specs.declared.tree.PerlForm.TheVariants as form
 use Rattle.xs_values.specs.declared.model.DataModel.TheVariants as model
 use Rattle.xs_csyn.specs.Tree as t
 use Rattle.xs_csyn.specs.Tree.{ExprTree, StmtTree, StmtTrees, FunctionTree, ItemTree, XsFunction, stmts_of}
-use Rattle.xs_csyn.specs.Words.{is_among, type_words}
-use Rattle.xs_csyn.specs.Input.{Input, Outcome, head_is, is_sign, is_sign_sort, is_key, is_key_sort, is_quoted, is_type_word, sees, sees_key, sees_type, sees_name, line, next, after, expect, expect_key, spelling, left, a_name}
+use Rattle.xs_ctok.specs.Words.{type_words}
+use Rattle.xs_base.specs.Names.{is_among}
+use Rattle.xs_csyn.specs.Input.{Input, Outcome, is_sign, is_sign_sort, is_key, is_key_sort, is_quoted, is_type_word, sees, sees_key, sees_type, sees_name, line, next, after, expect, expect_key, spelling, left, a_name}
+use Rattle.xs_base.specs.Readers.{head_is}
 use Rattle.xs_csyn.specs.Exprs.{expr}
 use Rattle.xs_csyn.specs.Stmts.{max_nesting, an_expr, is_word_form, is_new_xs, sees_word_form, sees_new_xs, word_form, new_xs, effect, simple, declaration, part, parts_from, parts, block, condition, opens, stmt}
 use Rattle.xs_csyn.specs.Files.{body_begins, function, items_from, items, tree_of, file_of, last_line}
@@ -25,20 +25,9 @@ use Rattle.xs_csyn.specs.View.{file_tree}
 use Rattle.xs_csyn.specs.Grammar as g
 use Rattle.xs_csyn.specs.Grammar.{Whole, AType, Declaration, Statement, Parts, File, IsTextOf, Is, IsKey, MayName, line_of}
 use Rattle.xs_csyn.proofs.SoundFiles.{whole_line}
-use Rattle.xs_csyn.proofs.Complete.{marks, names_no_mark, Stop, Starts, whole_starts, StopsWhole, closes, ends, at, type_done, whole_done, whole_shrinks, type_shrinks}
+use Rattle.xs_csyn.proofs.Complete.{key_only, is_key_of, marks, names_no_mark, no_key_by_mark, Stop, Starts, whole_starts, StopsWhole, closes, ends, at, type_done, whole_done, whole_shrinks, type_shrinks}
 
 -- ---- words
-
-is_key_of : (word : List ℕ) (n : Token) → IsKey word n → (n.sort ≡ sort.Key) × (n.text ≡ word)
-is_key_of word n e = by n.sort refl e
-  where
-    by : (s : Sort) → n.sort ≡ s → (is_key_sort s && bytes_eq n.text word) ≡ true → (n.sort ≡ sort.Key) × (n.text ≡ word)
-    by sort.Key is e = (is, (bytes_eq-Decides n.text word).0 e)
-    by sort.Name is e = absurd cc
-    by (sort.Numeral v) is e = absurd cc
-    by sort.OtherNumeral is e = absurd cc
-    by sort.Quoted is e = absurd cc
-    by sort.Sign is e = absurd cc
 
 -- what is known of a key word at the front
 key_no_mark : (word m : List ℕ) (n : Token) → IsKey word n → is_sign m n ≡ false
@@ -92,15 +81,8 @@ type_starts : {to : CType} {ts us : List Token} → AType to ts us → head_is i
 type_starts (g.type_word e s) = e
 
 type_no_end : {to : CType} {ts us : List Token} → AType to ts us → Stop (codes "}") ts
-type_no_end (g.type_word {t = u} e s) = by u.sort e
-  where
-    by : (s : Sort) → (is_key_sort s && is_among type_words u.text) ≡ true → (is_sign_sort s && bytes_eq u.text (codes "}")) ≡ false
-    by sort.Key e = refl
-    by sort.Name e = absurd cc
-    by (sort.Numeral v) e = absurd cc
-    by sort.OtherNumeral e = absurd cc
-    by sort.Quoted e = absurd cc
-    by sort.Sign e = absurd cc
+type_no_end (g.type_word {t = u} e s) =
+    ap (λ k. is_sign_sort k && bytes_eq u.text (codes "}")) (key_only u.sort (and_parts (is_key_sort u.sort) (is_among type_words u.text) e).0)
 
 declaration_no_end : {s : StmtTree} {ts us : List Token} → Declaration s ts us → Stop (codes "}") ts
 declaration_no_end (g.declare ty n e) = type_no_end ty
@@ -115,19 +97,8 @@ record StartsStatement (ts : List Token) : Type 0 where
 of_starts : (ts : List Token) → Starts ts → StartsStatement ts
 of_starts ts s = record { no_end = s.no_end; no_type = s.no_type }
 
-no_type_by_sign : (m : List ℕ) (u : Token) → Is m u → is_type_word u ≡ false
-no_type_by_sign m u e = by u.sort e
-  where
-    by : (s : Sort) → (is_sign_sort s && bytes_eq u.text m) ≡ true → (is_key_sort s && is_among type_words u.text) ≡ false
-    by sort.Sign e = refl
-    by sort.Key e = absurd cc
-    by sort.Name e = absurd cc
-    by (sort.Numeral v) e = absurd cc
-    by sort.OtherNumeral e = absurd cc
-    by sort.Quoted e = absurd cc
-
 stmt_starts : {s : StmtTree} {ts us : List Token} → Statement s ts us → StartsStatement ts
-stmt_starts (g.block {t = u} op x) = record { no_end = marks (codes "{") (codes "}") u op; no_type = no_type_by_sign (codes "{") u op }
+stmt_starts (g.block {t = u} op x) = record { no_end = marks (codes "{") (codes "}") u op; no_type = no_key_by_mark (codes "{") u op (is_among type_words) }
 stmt_starts (g.condition {t = n} k op x cl y) = record { no_end = key_no_mark (codes "if") (codes "}") n k; no_type = key_type (codes "if") n k }
 stmt_starts (g.args {t = n} {u = u} {ts = ts} k e) = of_starts (n ∷ u ∷ ts) (starts_by_key (codes "dXSARGS") n (u ∷ ts) k refl refl)
 stmt_starts (g.return_yes {t = n} {u = u} {ts = ts} k e) = of_starts (n ∷ u ∷ ts) (starts_by_key (codes "XSRETURN_YES") n (u ∷ ts) k refl refl)

@@ -1,12 +1,7 @@
-pub mod Few
 pub mod Turns
 pub mod Places
 pub mod Stars
-pub mod LexemeSteps
-pub mod Values
 pub mod Views
-pub mod Passed
-pub mod Running
 pub mod Sound
 pub mod SoundFiles
 pub mod Complete

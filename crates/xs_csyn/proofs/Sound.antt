@@ -1,18 +1,19 @@
 -- What is read is in the grammar.
-use Rattle.std.proofs.Common.{◌≡◌, ℕ, zero, suc, ◌+◌, Bool, true, false, if◌then◌else◌, nat_lt, List, [], ◌∷◌, ◌++◌, append_assoc, Option, Some, None, Ok, Err, refl, ap, sym, ◌∙◌, add-one}
+use Rattle.std.proofs.Common.{◌≡◌, ℕ, zero, suc, ◌+◌, Bool, true, false, if◌then◌else◌, nat_lt, List, [], ◌∷◌, ◌++◌, append_assoc, Option, Some, None, Ok, Err, refl, ap, subst, sym, ◌∙◌, add-one}
 use Rattle.std.specs.Prelude.{codes}
 use Rattle.std.specs.Str.{bytes_eq}
 use Rattle.xs_csyn.specs.declared.node.Level.{Level}
 use Rattle.xs_csyn.specs.declared.node.Level.TheVariants as level
-use Rattle.xs_csyn.specs.declared.token.Sort.{Sort}
-use Rattle.xs_csyn.specs.declared.token.Sort.TheVariants as sort
-use Rattle.xs_csyn.specs.declared.token.Token.{Token}
+use Rattle.xs_ctok.specs.declared.token.Sort.{Sort}
+use Rattle.xs_ctok.specs.declared.token.Sort.TheVariants as sort
+use Rattle.xs_ctok.specs.declared.token.Token.{Token}
 use Rattle.xs_csyn.specs.declared.tree.BinaryOp.{BinaryOp}
 use Rattle.xs_csyn.specs.declared.tree.BinaryOp.TheVariants as op
 use Rattle.xs_csyn.specs.declared.tree.CType.{CType}
 use Rattle.xs_csyn.specs.Tree as t
 use Rattle.xs_csyn.specs.Tree.{ExprTree, ExprTrees, PlaceTree, exprs_of}
-use Rattle.xs_csyn.specs.Input.{Input, Outcome, Reader, and_then, head_is, is_sign, is_name, is_type_word, tail, sees, sees_type, sees_name, line, line_at, next, after, expect, refuse, pure, ◌<$>◌, ◌>>◌, ◌>>=◌, sort_at, sort_of, text_at, spelling, left, take_token, peek, eat, too_deep, a_type_word}
+use Rattle.xs_csyn.specs.Input.{Input, Outcome, Reader, is_sign, is_name, is_type_word, sees, sees_type, sees_name, line, line_at, next, after, expect, refuse, sort_at, sort_of, text_at, spelling, left, take_token, taken, peek, eat, too_deep, a_type_word}
+use Rattle.xs_base.specs.Readers.{and_then, head_is, tail, pure, ◌<$>◌, ◌>>◌, ◌>>=◌}
 use Rattle.xs_csyn.specs.Exprs.{Found, FoundAll, expr, whole, assignment, comparison, sum, unary, cast, climb, named, arguments, list, list_from, term, above, leaf, called, joined, assigned, with_more, no_nodes, operator, on, place_of, list_place, count_stars, behind_stars, stars, a_type}
 use Rattle.xs_csyn.specs.Grammar as g
 use Rattle.xs_csyn.specs.Grammar.{Whole, Comparison, Sum, Unary, Arguments, APlace, AType, Stars, line_of, line_of_place}
@@ -36,13 +37,23 @@ map_ok {A} {B} f (Ok p) b k h =
     (p.0, ap (λ (j : Input). let r : Outcome A = Ok (p.0, j) in r) s.1, sym s.0)
 map_ok f (Err e) b k h = absurd cc
 
+-- What is taken is wanted.
+pub taken_ok : (b : Bool) (i k : Input) (text : List ℕ) → taken b i ≡ Ok (text, k) → (b ≡ true) × (text ≡ spelling i) × (k ≡ next i)
+taken_ok true i k text h = let s = same_ok (spelling i) text (next i) k h in (refl, sym s.0, sym s.1)
+taken_ok false i k text h = absurd cc
+
+-- the same where its text is not looked at
+pub passed_ok : (b : Bool) (i k : Input) (u : Unit {0}) → and_then (taken b i) (λ _. pure tt) ≡ Ok (u, k) → (b ≡ true) × (k ≡ next i)
+passed_ok true i k u h = (refl, sym (same_ok tt u (next i) k h).1)
+passed_ok false i k u h = absurd cc
+
 pub expect_ok : (mark : List ℕ) (i k : Input) (u : Unit {0}) → expect mark i ≡ Ok (u, k) → (head_is (is_sign mark) i.rest ≡ true) × (k ≡ next i)
 unfolding expect sees
-expect_ok mark i k u h = go (head_is (is_sign mark) i.rest) refl h
-  where
-    go : (b : Bool) → head_is (is_sign mark) i.rest ≡ b → (if b then Ok (tt, next i) else refuse i) ≡ Ok (u, k) → (head_is (is_sign mark) i.rest ≡ true) × (k ≡ next i)
-    go true e h = (e, sym (same_ok tt u (next i) k h).1)
-    go false e h = absurd cc
+expect_ok mark i k u h = passed_ok (head_is (is_sign mark) i.rest) i k u h
+
+-- What is found up to where reading came stands there.
+pub moved : {A : Type 0} (P : A → Input → Type 0) (a f : A) (j k : Input) → f ≡ a → k ≡ j → P a j → P f k
+moved P a f j k e e' x = rw (e, e') x
 
 -- ---- types
 
@@ -123,10 +134,7 @@ set_stands p a ts (u ∷ us) vs x e y = g.set x e y
 -- An expression has the line of its first token.
 pub unary_line : (a : ExprTree) (ts us : List Token) (last : ℕ) → Unary a ts us → line_at last ts ≡ line_of a
 unary_line a ts us last (g.cast op ty cl x) = refl
-unary_line a ts us last (g.int k) = refl
-unary_line a ts us last (g.text k) = refl
-unary_line a ts us last (g.name n) = refl
-unary_line a ts us last (g.call n op x) = refl
+unary_line a ts us last x = refl
 
 -- ---- places
 
@@ -161,16 +169,12 @@ list_place_line line (t.MoreExprs a (t.MoreExprs b all)) p e = absurd cc
 
 place_line : (a : ExprTree) (p : PlaceTree) → place_of a ≡ Some p → line_of_place p ≡ line_of a
 place_line (t.Var line name) p e = let same : t.VarPlace line name ≡ p = cc in ap line_of_place (sym same)
-place_line (t.Num line value) p e = absurd cc
-place_line (t.Str line text) p e = absurd cc
 place_line (t.Call line name args) p e = by (bytes_eq name (codes "ST")) e
   where
     by : (b : Bool) → (if b then list_place line args else None) ≡ Some p → line_of_place p ≡ line
     by true e = list_place_line line args p e
     by false e = absurd cc
-place_line (t.Set line place value) p e = absurd cc
-place_line (t.Two line op a b) p e = absurd cc
-place_line (t.Cast line to a) p e = absurd cc
+place_line a p e = absurd cc
 
 -- ---- operators
 
@@ -183,9 +187,6 @@ Chain level.Unary a i k = Sum a i.rest k.rest
 record Climbs (operands : Level) (line : ℕ) (a : ExprTree) (s k : Input) : Type 0 where
   stands : Chain operands a s k
   line_is : line ≡ line_of a
-
-moved_climbs : (operands : Level) (line : ℕ) (a f : Found) (s j k : Input) → f ≡ a → k ≡ j → Climbs operands line a.tree s j → Climbs operands line f.tree s k
-moved_climbs operands line a f s j k e e' x = rw (e, e') x
 
 grown : (operands : Level) (which : BinaryOp) (line : ℕ) (a b : ExprTree) (s i k : Input) → operator operands i ≡ Some which → Climbs operands line a s i → Stands operands b (next i) k → Climbs operands line (t.Two line which a b) s k
 unfolding operator sees next
@@ -201,29 +202,28 @@ grown level.Unary which line a b s i k e x y = by (sees (codes "+") i) refl e
     by true is e = let same : op.Add ≡ which = cc in rw (← same, x.line_is) (record { stands = add_stands a b s.rest i.rest k.rest x.stands is y; line_is = refl })
     by false is e = absurd cc
 
--- what a list of arguments that goes on from `all` is
-abbrev GoesOn : FoundAll → FoundAll → Input → Input → Type 0
-GoesOn all found i k = (ts : List ExprTree) × (found.trees ≡ all.trees ++ ts) × g.Some (exprs_of ts) i.rest k.rest
+-- what is found goes on from what was there, and what is added stands
+abbrev pub GoesOn : {T : Type 0} → List T → List T → (List T → Type 0) → Type 0
+GoesOn {T} before found Added = (added : List T) × (found ≡ before ++ added) × Added added
 
-moved : (a f : Found) (j k i : Input) → f ≡ a → k ≡ j → Unary a.tree i.rest j.rest → Unary f.tree i.rest k.rest
-moved a f j k i e e' x = rw (e, e') x
+-- arguments from one place to another
+abbrev MoreArguments : Input → Input → List ExprTree → Type 0
+MoreArguments i k ts = g.Some (exprs_of ts) i.rest k.rest
 
-moved_whole : (a f : Found) (j k i : Input) → f ≡ a → k ≡ j → Whole a.tree i.rest j.rest → Whole f.tree i.rest k.rest
-moved_whole a f j k i e e' x = rw (e, e') x
-
-relined : (p : PlaceTree) (a : ExprTree) (line : ℕ) (ts us : List Token) → line ≡ line_of_place p → Whole (t.Set (line_of_place p) p a) ts us → Whole (t.Set line p a) ts us
-relined p a line ts us e x = rw e x
+-- a tree that was found stands from one place to another
+abbrev Stood : Level → Input → Found → Input → Type 0
+Stood level i f k = Stands level f.tree i k
 
 module _ (inner : Level → Reader Found) (H : (l : Level) (i k : Input) (f : Found) → inner l i ≡ Ok (f, k) → Stands l f.tree i k) where
-  list_sound : (n : ℕ) (all found : FoundAll) (i k : Input) → list_from inner n all i ≡ Ok (found, k) → GoesOn all found i k
+  list_sound : (n : ℕ) (all found : FoundAll) (i k : Input) → list_from inner n all i ≡ Ok (found, k) → GoesOn all.trees found.trees (MoreArguments i k)
   unfolding list_from after sees next
   list_sound zero all found i k h = absurd cc
   list_sound (suc n) all found i k h =
       let p = bind_ok (inner level.Whole i) (λ one. eat (codes ",") >>= λ more. if more then list_from inner n (with_more all one) else (expect (codes ")") >> pure (with_more all one))) found k h in
       by_comma p.0 p.1 p.2 (list_sound n (with_more all p.0) found (next p.1) k) (sees (codes ",") p.1) refl p.3
     where
-      by_comma : (one : Found) (j : Input) → inner level.Whole i ≡ Ok (one, j) → (list_from inner n (with_more all one) (next j) ≡ Ok (found, k) → GoesOn (with_more all one) found (next j) k)
-          → (b : Bool) → sees (codes ",") j ≡ b → (if b then list_from inner n (with_more all one) else (expect (codes ")") >> pure (with_more all one))) (if b then next j else j) ≡ Ok (found, k) → GoesOn all found i k
+      by_comma : (one : Found) (j : Input) → inner level.Whole i ≡ Ok (one, j) → (list_from inner n (with_more all one) (next j) ≡ Ok (found, k) → GoesOn (with_more all one).trees found.trees (MoreArguments (next j) k))
+          → (b : Bool) → sees (codes ",") j ≡ b → (if b then list_from inner n (with_more all one) else (expect (codes ")") >> pure (with_more all one))) (if b then next j else j) ≡ Ok (found, k) → GoesOn all.trees found.trees (MoreArguments i k)
       by_comma one j r again true e h =
           let rest = again h in
           (one.tree ∷ rest.0, rest.1 ∙ append_assoc all.trees (one.tree ∷ []) rest.0, more_stands one.tree (exprs_of rest.0) i.rest j.rest k.rest (H level.Whole i j one r) e rest.2)
@@ -253,10 +253,10 @@ module _ (inner : Level → Reader Found) (H : (l : Level) (i k : Input) (f : Fo
       by_call : (b : Bool) → sees (codes "(") (next i) ≡ b → (if b then called (line i) (spelling i) <$> arguments inner else pure (leaf (t.Var (line i) (spelling i)))) (if b then next (next i) else next i) ≡ Ok (f, k) → Unary f.tree i.rest k.rest
       by_call true e h =
           let p = map_ok (called (line i) (spelling i)) (arguments inner (next (next i))) f k h in
-          moved (called (line i) (spelling i) p.0) f k k i p.2 refl (call_stands (exprs_of p.0.trees) i.last i.rest k.rest w e (arguments_sound p.0 (next (next i)) k p.1))
+          moved (Stood level.Unary i) (called (line i) (spelling i) p.0) f k k p.2 refl (call_stands (exprs_of p.0.trees) i.last i.rest k.rest w e (arguments_sound p.0 (next (next i)) k p.1))
       by_call false e h =
           let s = same_ok (leaf (t.Var (line i) (spelling i))) f (next i) k h in
-          moved (leaf (t.Var (line i) (spelling i))) f (next i) k i (sym s.0) (sym s.1) (name_stands i.last i.rest w)
+          moved (Stood level.Unary i) (leaf (t.Var (line i) (spelling i))) f (next i) k (sym s.0) (sym s.1) (name_stands i.last i.rest w)
 
   cast_sound : (i k : Input) (f : Found) → sees (codes "(") i ≡ true → cast inner (line i) (next i) ≡ Ok (f, k) → Unary f.tree i.rest k.rest
   unfolding cast sees next line
@@ -265,7 +265,7 @@ module _ (inner : Level → Reader Found) (H : (l : Level) (i k : Input) (f : Fo
       let q = bind_ok (expect (codes ")") p.1) (λ _. above (t.Cast (line i) p.0) <$> inner level.Unary) f k p.3 in
       let x = expect_ok (codes ")") p.1 q.1 q.0 q.2 in
       let r = map_ok (above (t.Cast (line i) p.0)) (inner level.Unary q.1) f k q.3 in
-      moved (above (t.Cast (line i) p.0) r.0) f k k i r.2 refl
+      moved (Stood level.Unary i) (above (t.Cast (line i) p.0) r.0) f k k r.2 refl
       (cast_stands p.0 r.0.tree i.last i.rest p.1.rest q.1.rest k.rest e (a_type_sound (next i) p.1 p.0 p.2) x.0 (ap (λ (j : Input). j.rest) x.1) (H level.Unary q.1 k r.0 r.1))
 
   pub unary_sound : (i k : Input) (f : Found) → unary inner i ≡ Ok (f, k) → Unary f.tree i.rest k.rest
@@ -279,15 +279,11 @@ module _ (inner : Level → Reader Found) (H : (l : Level) (i k : Input) (f : Fo
       by_sort : (found : Option Sort) → sort_at i.rest ≡ found → term inner (line i) found i ≡ Ok (f, k) → Unary f.tree i.rest k.rest
       by_sort (Some (sort.Numeral value)) e h =
           let s = same_ok (leaf (t.Num (line i) value)) f (next i) k h in
-          moved (leaf (t.Num (line i) value)) f (next i) k i (sym s.0) (sym s.1) (int_stands value i.last i.rest e)
+          moved (Stood level.Unary i) (leaf (t.Num (line i) value)) f (next i) k (sym s.0) (sym s.1) (int_stands value i.last i.rest e)
       by_sort (Some sort.Quoted) e h =
           let s = same_ok (leaf (t.Str (line i) (spelling i))) f (next i) k h in
-          moved (leaf (t.Str (line i) (spelling i))) f (next i) k i (sym s.0) (sym s.1) (text_stands i.last i.rest e)
-      by_sort None e h = by_name (sees_name i) refl h
-      by_sort (Some sort.Key) e h = by_name (sees_name i) refl h
-      by_sort (Some sort.Name) e h = by_name (sees_name i) refl h
-      by_sort (Some sort.OtherNumeral) e h = by_name (sees_name i) refl h
-      by_sort (Some sort.Sign) e h = by_name (sees_name i) refl h
+          moved (Stood level.Unary i) (leaf (t.Str (line i) (spelling i))) f (next i) k (sym s.0) (sym s.1) (text_stands i.last i.rest e)
+      by_sort found e h = by_name (sees_name i) refl h
 
       by_cast : (b : Bool) → sees (codes "(") i ≡ b → (if b then cast inner (line i) else (do found ← peek; term inner (line i) found)) (if b then next i else i) ≡ Ok (f, k) → Unary f.tree i.rest k.rest
       by_cast true e h = cast_sound i k f e h
@@ -298,13 +294,13 @@ module _ (inner : Level → Reader Found) (H : (l : Level) (i k : Input) (f : Fo
   climb_sound below zero operands line left f s i k x h = by_op (operator operands i) h
     where
       by_op : (o : Option BinaryOp) → on o (pure left) (λ op. too_deep) i ≡ Ok (f, k) → Climbs operands line f.tree s k
-      by_op None h = let e = same_ok left f i k h in moved_climbs operands line left f s i k (sym e.0) (sym e.1) x
+      by_op None h = let e = same_ok left f i k h in moved (λ (n : Found) j. Climbs operands line n.tree s j) left f i k (sym e.0) (sym e.1) x
       by_op (Some op) h = absurd cc
   climb_sound below (suc n) operands line left f s i k x h = by_op (λ op right j y. climb_sound below n operands line (joined line op left right) f s j k y) (operator operands i) refl h
     where
       by_op : ((op : BinaryOp) (right : Found) (j : Input) → Climbs operands line (joined line op left right).tree s j → climb inner below operands line n (joined line op left right) j ≡ Ok (f, k) → Climbs operands line f.tree s k)
           → (o : Option BinaryOp) → operator operands i ≡ o → on o (pure left) (λ op. if nat_lt below left.height then too_deep else (do take_token; right ← inner operands; climb inner below operands line n (joined line op left right))) i ≡ Ok (f, k) → Climbs operands line f.tree s k
-      by_op again None e h = let e' = same_ok left f i k h in moved_climbs operands line left f s i k (sym e'.0) (sym e'.1) x
+      by_op again None e h = let e' = same_ok left f i k h in moved (λ (n : Found) j. Climbs operands line n.tree s j) left f i k (sym e'.0) (sym e'.1) x
       by_op again (Some op) e h = by_deep (nat_lt below left.height) h
         where
           by_deep : (b : Bool) → (if b then too_deep else (do take_token; right ← inner operands; climb inner below operands line n (joined line op left right))) i ≡ Ok (f, k) → Climbs operands line f.tree s k
@@ -344,7 +340,7 @@ module _ (inner : Level → Reader Found) (H : (l : Level) (i k : Input) (f : Fo
               let q = map_ok (assigned (line i) p first.height) (inner level.Whole (next j)) f k h in
               let line_is : line i ≡ line_of_place p = unary_line first.tree i.rest j.rest i.last x ∙ sym (place_line first.tree p is) in
               let stands = set_stands p q.0.tree i.rest j.rest k.rest (place_sound first.tree p i.rest j.rest is x) e (H level.Whole (next j) k q.0 q.1) in
-              moved_whole (assigned (line i) p first.height q.0) f k k i q.2 refl (relined p q.0.tree (line i) i.rest k.rest line_is stands)
+              moved (Stood level.Whole i) (assigned (line i) p first.height q.0) f k k q.2 refl (subst (λ (l : ℕ). Whole (t.Set l p q.0.tree) i.rest k.rest) (sym line_is) stands)
 
   whole_sound : (below : ℕ) (i k : Input) (f : Found) → whole inner below i ≡ Ok (f, k) → Whole f.tree i.rest k.rest
   unfolding whole

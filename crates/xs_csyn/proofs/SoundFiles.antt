@@ -1,29 +1,31 @@
 -- What is read as statements and files is in the grammar.
-use Rattle.std.proofs.Common.{◌≡◌, ℕ, zero, suc, ◌-◌, Bool, true, false, if◌then◌else◌, ◌&&◌, ◌||◌, ◌==◌, List, [], ◌∷◌, ◌++◌, append_assoc, append-nil, Result, Ok, Err, refl, ap, sym, ◌∙◌, length, IfOk, arith}
+use Rattle.std.proofs.Common.{◌≡◌, ℕ, zero, suc, ◌-◌, Bool, true, false, if◌then◌else◌, ◌&&◌, ◌||◌, ◌==◌, List, [], ◌∷◌, ◌++◌, append_assoc, append-nil, Result, Ok, Err, refl, ap, subst, sym, ◌∙◌, length, IfOk, arith}
 use Rattle.std.specs.Prelude.{codes}
 use Rattle.std.specs.Str.{bytes_eq}
+use Rattle.std.proofs.lemmas.Bool.{and_parts, eqb-true}
 use Rattle.std.proofs.lemmas.Slice.Eq.{bytes_eq-Decides}
 use Rattle.xs_base.specs.declared.fault.Fault.{Fault}
 use Rattle.xs_base.specs.declared.fault.Refuse.{Refuse}
 use Rattle.xs_base.specs.declared.place.FileOf.{FileOf}
 use Rattle.xs_base.specs.Reading.{GivesBy}
 use Rattle.xs_csyn.specs.declared.node.Level.TheVariants as level
-use Rattle.xs_csyn.specs.declared.token.Token.{Token}
+use Rattle.xs_ctok.specs.declared.token.Token.{Token}
 use Rattle.xs_csyn.specs.declared.tree.CFile.{CFile}
 use Rattle.xs_csyn.specs.declared.tree.CType.{CType}
 use Rattle.xs_csyn.specs.declared.tree.PerlForm.TheVariants as form
 use Rattle.xs_csyn.specs.Tree as t
 use Rattle.xs_csyn.specs.Tree.{ExprTree, PlaceTree, StmtTree, FunctionTree, ItemTree, XsFunction, FileTree, stmts_of}
-use Rattle.xs_csyn.specs.Input.{Input, Outcome, Reader, head_is, is_sign, is_key, is_key_sort, is_name, is_quoted, tail, sees, sees_key, sees_type, sees_name, line, line_at, next, after, expect, expect_key, refuse, pure, ◌>>◌, ◌>>=◌, text_at, spelling, left, take_token, too_deep, a_name}
+use Rattle.xs_csyn.specs.Input.{Input, Outcome, Reader, is_sign, is_key, is_key_sort, is_name, is_quoted, sees, sees_key, sees_type, sees_name, line, line_at, next, after, expect, expect_key, refuse, text_at, spelling, left, too_deep, a_name}
+use Rattle.xs_base.specs.Readers.{head_is, tail, pure, ◌>>◌, ◌>>=◌}
 use Rattle.xs_csyn.specs.Exprs.{Found, expr, a_type}
 use Rattle.xs_csyn.specs.Stmts.{max_nesting, an_expr, is_word_form, is_new_xs, begins_new_xs, ends_new_xs, form_of, sees_word_form, sees_new_xs, word_form, new_xs, effect, simple, declaration, part, parts_from, parts, block, condition, opens, stmt}
 use Rattle.xs_csyn.specs.Files.{body_begins, function, items_from, items, file_with, tree_of, tree_in, file_of, last_line}
-use Rattle.xs_csyn.specs.Tokens.{tokens_of}
+use Rattle.xs_ctok.specs.Tokens.{tokens_of}
 use Rattle.xs_csyn.specs.View.{file_tree}
 use Rattle.xs_csyn.specs.Grammar as g
 use Rattle.xs_csyn.specs.Grammar.{Whole, Comparison, Sum, APlace, AType, Declaration, Statement, Parts, File, IsTextOf, line_of, line_of_place}
 use Rattle.xs_values.specs.declared.model.DataModel.TheVariants as model
-use Rattle.xs_csyn.proofs.Sound.{same_ok, bind_ok, map_ok, expect_ok, unary_line, expr_sound, a_type_sound}
+use Rattle.xs_csyn.proofs.Sound.{same_ok, bind_ok, map_ok, taken_ok, passed_ok, expect_ok, moved, GoesOn, unary_line, expr_sound, a_type_sound}
 
 -- ---- lines
 
@@ -51,22 +53,14 @@ an_expr_sound i k a h =
     let p = map_ok (λ (n : Found). n.tree) (expr max_nesting level.Whole i) a k h in
     rw p.2 (expr_sound max_nesting level.Whole i k p.0 p.1)
 
-both : (a b : Bool) → (a && b) ≡ true → (a ≡ true) × (b ≡ true)
-both true b h = (refl, h)
-both false b h = absurd cc
-
-second_of : (a b : Bool) → a ≡ false → (a || b) ≡ true → b ≡ true
-second_of true b e h = absurd cc
-second_of false b e h = h
-
 key_spells : (word : List ℕ) (n : Token) → is_key word n ≡ true → bytes_eq n.text word ≡ true
-key_spells word n h = (both (is_key_sort n.sort) (bytes_eq n.text word) h).1
+key_spells word n h = (and_parts (is_key_sort n.sort) (bytes_eq n.text word) h).1
 
 word_stands : (last : ℕ) (ts : List Token) → is_word_form ts ≡ true → Statement (t.Perl (line_at last ts) (form_of (text_at ts))) ts (tail (tail ts))
 word_stands last [] h = absurd cc
 word_stands last (a ∷ []) h = absurd cc
 word_stands last (a ∷ b ∷ ts) h =
-    let p = both (is_key (codes "dXSARGS") a || is_key (codes "XSRETURN_YES") a) (is_sign (codes ";") b) h in
+    let p = and_parts (is_key (codes "dXSARGS") a || is_key (codes "XSRETURN_YES") a) (is_sign (codes ";") b) h in
     by (is_key (codes "dXSARGS") a) refl p.0 p.1
   where
     by : (q : Bool) → is_key (codes "dXSARGS") a ≡ q → (q || is_key (codes "XSRETURN_YES") a) ≡ true → is_sign (codes ";") b ≡ true → Statement (t.Perl a.line (form_of a.text)) (a ∷ b ∷ ts) ts
@@ -79,21 +73,15 @@ word_stands last (a ∷ b ∷ ts) h =
 
 new_xs_stands : (last : ℕ) (ts : List Token) → is_new_xs ts ≡ true
     → Statement (t.Perl (line_at last ts) (form.NewXs (text_at (tail (tail ts))) (text_at (tail (tail (tail (tail ts))))))) ts (tail (tail (tail (tail (tail (tail (tail ts)))))))
-new_xs_stands last [] h = absurd cc
-new_xs_stands last (a ∷ []) h = absurd cc
-new_xs_stands last (a ∷ b ∷ []) h = absurd cc
-new_xs_stands last (a ∷ b ∷ c ∷ []) h = absurd cc
-new_xs_stands last (a ∷ b ∷ c ∷ d ∷ []) h = absurd cc
-new_xs_stands last (a ∷ b ∷ c ∷ d ∷ e ∷ []) h = absurd cc
-new_xs_stands last (a ∷ b ∷ c ∷ d ∷ e ∷ f ∷ []) h = absurd cc
 new_xs_stands last (a ∷ b ∷ c ∷ d ∷ e ∷ f ∷ z ∷ ts) h =
-    let p = both (begins_new_xs a b c d) (ends_new_xs e f z) h in
-    let q = both (is_key (codes "newXS_deffile") a && is_sign (codes "(") b && is_quoted c) (is_sign (codes ",") d) p.0 in
-    let r = both (is_key (codes "newXS_deffile") a && is_sign (codes "(") b) (is_quoted c) q.0 in
-    let s = both (is_key (codes "newXS_deffile") a) (is_sign (codes "(") b) r.0 in
-    let u = both (is_name e && is_sign (codes ")") f) (is_sign (codes ";") z) p.1 in
-    let v = both (is_name e) (is_sign (codes ")") f) u.0 in
+    let p = and_parts (begins_new_xs a b c d) (ends_new_xs e f z) h in
+    let q = and_parts (is_key (codes "newXS_deffile") a && is_sign (codes "(") b && is_quoted c) (is_sign (codes ",") d) p.0 in
+    let r = and_parts (is_key (codes "newXS_deffile") a && is_sign (codes "(") b) (is_quoted c) q.0 in
+    let s = and_parts (is_key (codes "newXS_deffile") a) (is_sign (codes "(") b) r.0 in
+    let u = and_parts (is_name e && is_sign (codes ")") f) (is_sign (codes ";") z) p.1 in
+    let v = and_parts (is_name e) (is_sign (codes ")") f) u.0 in
     g.new_xs s.0 s.1 r.1 q.1 v.0 v.1 u.1
+new_xs_stands last ts h = absurd cc
 
 effect_stands : (a : ExprTree) (last : ℕ) (ts us : List Token) → is_word_form ts ≡ false → is_new_xs ts ≡ false → Whole a ts us → head_is (is_sign (codes ";")) us ≡ true → Statement (t.Effect (line_at last ts) a) ts (tail us)
 effect_stands a last ts [] w n x e = absurd cc
@@ -123,19 +111,13 @@ condition_stands test s last (a ∷ []) us vs ws k o x c r y = absurd cc
 condition_stands test s last (a ∷ b ∷ ts) [] vs ws k o x c r y = absurd cc
 condition_stands test s last (a ∷ b ∷ ts) (u ∷ us) vs ws k o x c r y = let y' : Statement s us ws = rw (← r) y in g.condition k o x c y'
 
-moved_stmt : (a s : StmtTree) (i j k : Input) → s ≡ a → k ≡ j → Statement a i.rest j.rest → Statement s i.rest k.rest
-moved_stmt a s i j k e e' x = rw (e, e') x
-
-moved_declaration : (a s : StmtTree) (i j k : Input) → s ≡ a → k ≡ j → Declaration a i.rest j.rest → Declaration s i.rest k.rest
-moved_declaration a s i j k e e' x = rw (e, e') x
-
 a_name_ok : (i k : Input) (name : List ℕ) → a_name i ≡ Ok (name, k) → (head_is is_name i.rest ≡ true) × (name ≡ text_at i.rest) × (k ≡ next i)
 unfolding a_name sees_name spelling
-a_name_ok i k name h = go (head_is is_name i.rest) refl h
-  where
-    go : (b : Bool) → head_is is_name i.rest ≡ b → (if b then take_token i else refuse i) ≡ Ok (name, k) → (head_is is_name i.rest ≡ true) × (name ≡ text_at i.rest) × (k ≡ next i)
-    go true e h = let s = same_ok (spelling i) name (next i) k h in (e, sym s.0, sym s.1)
-    go false e h = absurd cc
+a_name_ok i k name h = taken_ok (head_is is_name i.rest) i k name h
+
+-- a statement that was found stands from one place to another
+abbrev Stood : Input → StmtTree → Input → Type 0
+Stood i s k = Statement s i.rest k.rest
 
 -- ---- simple statements
 
@@ -143,7 +125,7 @@ word_form_sound : (i k : Input) (s : StmtTree) → is_word_form i.rest ≡ true 
 unfolding word_form line spelling next
 word_form_sound i k s e h =
     let q = same_ok (t.Perl (line i) (form_of (spelling i))) s (next (next i)) k h in
-    moved_stmt (t.Perl (line i) (form_of (spelling i))) s i (next (next i)) k (sym q.0) (sym q.1) (word_stands i.last i.rest e)
+    moved (Stood i) (t.Perl (line i) (form_of (spelling i))) s (next (next i)) k (sym q.0) (sym q.1) (word_stands i.last i.rest e)
 
 new_xs_sound : (i k : Input) (s : StmtTree) → is_new_xs i.rest ≡ true → new_xs i ≡ Ok (s, k) → Statement s i.rest k.rest
 unfolding new_xs line spelling next
@@ -151,7 +133,7 @@ new_xs_sound i k s e h =
     let made : StmtTree = t.Perl (line i) (form.NewXs (text_at (tail (tail i.rest))) (text_at (tail (tail (tail (tail i.rest)))))) in
     let there : Input = next (next (next (next (next (next (next i)))))) in
     let q = same_ok made s there k h in
-    moved_stmt made s i there k (sym q.0) (sym q.1) (new_xs_stands i.last i.rest e)
+    moved (Stood i) made s there k (sym q.0) (sym q.1) (new_xs_stands i.last i.rest e)
 
 effect_sound : (i k : Input) (s : StmtTree) → is_word_form i.rest ≡ false → is_new_xs i.rest ≡ false → effect i ≡ Ok (s, k) → Statement s i.rest k.rest
 unfolding effect line next
@@ -160,7 +142,7 @@ effect_sound i k s w n h =
     let q = bind_ok (expect (codes ";") p.1) (λ _. pure (t.Effect (line i) p.0)) s k p.3 in
     let x = expect_ok (codes ";") p.1 q.1 q.0 q.2 in
     let r = same_ok (t.Effect (line i) p.0) s q.1 k q.3 in
-    moved_stmt (t.Effect (line i) p.0) s i (next p.1) k (sym r.0) (sym r.1 ∙ x.1) (effect_stands p.0 i.last i.rest p.1.rest w n (an_expr_sound i p.1 p.0 p.2) x.0)
+    moved (Stood i) (t.Effect (line i) p.0) s (next p.1) k (sym r.0) (sym r.1 ∙ x.1) (effect_stands p.0 i.last i.rest p.1.rest w n (an_expr_sound i p.1 p.0 p.2) x.0)
 
 simple_sound : (i k : Input) (s : StmtTree) → simple i ≡ Ok (s, k) → Statement s i.rest k.rest
 unfolding simple sees_word_form sees_new_xs
@@ -184,14 +166,14 @@ declaration_sound i k s h =
     let x = expect_ok (codes ";") q.1 r.1 r.0 r.2 in
     let e = same_ok (t.Declare (line i) p.0 q.0) s r.1 k r.3 in
     let semicolon : head_is (is_sign (codes ";")) (tail p.1.rest) ≡ true = ap (λ (j : Input). head_is (is_sign (codes ";")) j.rest) (sym n.2) ∙ x.0 in
-    moved_declaration (t.Declare (line i) p.0 (text_at p.1.rest)) s i (next (next p.1)) k (sym e.0 ∙ ap (λ name. t.Declare (line i) p.0 name) n.1) (sym e.1 ∙ x.1 ∙ ap next n.2)
+    moved (λ (d : StmtTree) (j : Input). Declaration d i.rest j.rest) (t.Declare (line i) p.0 (text_at p.1.rest)) s (next (next p.1)) k (sym e.0 ∙ ap (λ name. t.Declare (line i) p.0 name) n.1) (sym e.1 ∙ x.1 ∙ ap next n.2)
     (declared_stands p.0 i.last i.rest p.1.rest (a_type_sound i p.1 p.0 p.2) n.0 semicolon)
 
 -- ---- statements that hold others
 
--- what goes on from the statements so far
-abbrev GoesOn : List StmtTree → List StmtTree → Input → Input → Type 0
-GoesOn done found i k = (ss : List StmtTree) × (found ≡ done ++ ss) × Parts (stmts_of ss) i.rest k.rest
+-- statements from one place to another
+abbrev MoreParts : Input → Input → List StmtTree → Type 0
+MoreParts i k ss = Parts (stmts_of ss) i.rest k.rest
 
 module _ (inner : Reader StmtTree) (H : (i k : Input) (s : StmtTree) → inner i ≡ Ok (s, k) → Statement s i.rest k.rest) where
   part_sound : (i k l : Input) (s : StmtTree) (all : t.StmtTrees) → part inner i ≡ Ok (s, k) → Parts all k.rest l.rest → Parts (t.MoreStmts s all) i.rest l.rest
@@ -202,13 +184,13 @@ module _ (inner : Reader StmtTree) (H : (i k : Input) (s : StmtTree) → inner i
       by true h = g.declared (declaration_sound i k s h) rest
       by false h = g.stated (H i k s h) rest
 
-  parts_from_sound : (n : ℕ) (done found : List StmtTree) (i k : Input) → parts_from inner n done i ≡ Ok (found, k) → GoesOn done found i k
+  parts_from_sound : (n : ℕ) (done found : List StmtTree) (i k : Input) → parts_from inner n done i ≡ Ok (found, k) → GoesOn done found (MoreParts i k)
   unfolding parts_from after sees next
   parts_from_sound zero done found i k h = absurd cc
   parts_from_sound (suc n) done found i k h = by (λ s j h'. parts_from_sound n (done ++ s ∷ []) found j k h') (sees (codes "}") i) refl h
     where
-      by : ((s : StmtTree) (j : Input) → parts_from inner n (done ++ s ∷ []) j ≡ Ok (found, k) → GoesOn (done ++ s ∷ []) found j k)
-          → (b : Bool) → sees (codes "}") i ≡ b → (if b then pure done else (part inner >>= λ one. parts_from inner n (done ++ one ∷ []))) (if b then next i else i) ≡ Ok (found, k) → GoesOn done found i k
+      by : ((s : StmtTree) (j : Input) → parts_from inner n (done ++ s ∷ []) j ≡ Ok (found, k) → GoesOn (done ++ s ∷ []) found (MoreParts j k))
+          → (b : Bool) → sees (codes "}") i ≡ b → (if b then pure done else (part inner >>= λ one. parts_from inner n (done ++ one ∷ []))) (if b then next i else i) ≡ Ok (found, k) → GoesOn done found (MoreParts i k)
       by again true e h =
           let s = same_ok done found (next i) k h in
           let there : k.rest ≡ tail i.rest = ap (λ (j : Input). j.rest) (sym s.1) in
@@ -226,7 +208,7 @@ module _ (inner : Reader StmtTree) (H : (i k : Input) (s : StmtTree) → inner i
   unfolding block sees line next
   block_sound i k s e h =
       let p = map_ok (λ body. t.Block (line i) (stmts_of body)) (parts inner (next i)) s k h in
-      moved_stmt (t.Block (line i) (stmts_of p.0)) s i k k p.2 refl (block_stands (stmts_of p.0) i.last i.rest k.rest e (parts_sound (next i) k p.0 p.1))
+      moved (Stood i) (t.Block (line i) (stmts_of p.0)) s k k p.2 refl (block_stands (stmts_of p.0) i.last i.rest k.rest e (parts_sound (next i) k p.0 p.1))
 
   condition_sound : (i k : Input) (s : StmtTree) → sees_key (codes "if") i ≡ true → condition inner i ≡ Ok (s, k) → Statement s i.rest k.rest
   unfolding condition sees_key line next
@@ -238,7 +220,7 @@ module _ (inner : Reader StmtTree) (H : (i k : Input) (s : StmtTree) → inner i
       let cx = expect_ok (codes ")") p.1 c.1 c.0 c.2 in
       let q = map_ok (λ then_do. t.If (line i) p.0 then_do) (inner c.1) s k c.3 in
       let test : Whole p.0 (tail (tail i.rest)) p.1.rest = rw (← ap (λ (j : Input). j.rest) ox.1) (an_expr_sound o.1 p.1 p.0 p.2) in
-      moved_stmt (t.If (line i) p.0 q.0) s i k k q.2 refl
+      moved (Stood i) (t.If (line i) p.0 q.0) s k k q.2 refl
       (condition_stands p.0 q.0 i.last i.rest p.1.rest c.1.rest k.rest e ox.0 test cx.0 (ap (λ (j : Input). j.rest) cx.1) (H c.1 k q.0 q.1))
 
 pub stmt_sound : (room : ℕ) (i k : Input) (s : StmtTree) → stmt room i ≡ Ok (s, k) → Statement s i.rest k.rest
@@ -262,11 +244,7 @@ stmt_sound (suc below) i k s h = by_block (stmt_sound below) (sees (codes "{") i
 
 expect_key_ok : (word : List ℕ) (i k : Input) (u : Unit {0}) → expect_key word i ≡ Ok (u, k) → (head_is (is_key word) i.rest ≡ true) × (k ≡ next i)
 unfolding expect_key sees_key
-expect_key_ok word i k u h = go (head_is (is_key word) i.rest) refl h
-  where
-    go : (b : Bool) → head_is (is_key word) i.rest ≡ b → (if b then Ok (tt, next i) else refuse i) ≡ Ok (u, k) → (head_is (is_key word) i.rest ≡ true) × (k ≡ next i)
-    go true e h = (e, sym (same_ok tt u (next i) k h).1)
-    go false e h = absurd cc
+expect_key_ok word i k u h = passed_ok (head_is (is_key word) i.rest) i k u h
 
 body_begins_ok : (i k : Input) (u : Unit {0}) → body_begins i ≡ Ok (u, k) → (head_is (is_key (codes "dXSARGS")) i.rest ≡ true) × (k ≡ i)
 unfolding body_begins sees_key
@@ -279,15 +257,8 @@ body_begins_ok i k u h = go (head_is (is_key (codes "dXSARGS")) i.rest) refl h
 function_stands : (body : t.StmtTrees) (all : List ItemTree) (last : ℕ) (ts us : List Token) → head_is (is_key (codes "XS")) ts ≡ true → head_is (is_sign (codes "(")) (tail ts) ≡ true → head_is is_name (tail (tail ts)) ≡ true → head_is (is_sign (codes ")")) (tail (tail (tail ts))) ≡ true
     → head_is (is_sign (codes "{")) (tail (tail (tail (tail ts)))) ≡ true → head_is (is_key (codes "dXSARGS")) (tail (tail (tail (tail (tail ts))))) ≡ true → Parts body (tail (tail (tail (tail (tail ts))))) us → File all us
     → File (XsFunction (record { line = line_at last ts; name = text_at (tail (tail ts)); body = body }) ∷ all) ts
-function_stands body all last [] us k o n c b d x r = absurd cc
-function_stands body all last (t1 ∷ []) us k o n c b d x r = absurd cc
-function_stands body all last (t1 ∷ t2 ∷ []) us k o n c b d x r = absurd cc
-function_stands body all last (t1 ∷ t2 ∷ t3 ∷ []) us k o n c b d x r = absurd cc
-function_stands body all last (t1 ∷ t2 ∷ t3 ∷ t4 ∷ []) us k o n c b d x r = absurd cc
 function_stands body all last (t1 ∷ t2 ∷ t3 ∷ t4 ∷ t5 ∷ ts) us k o n c b d x r = g.function k o n c b d x r
-
-moved_file : (a f : FunctionTree) (all : List ItemTree) (ts : List Token) → f ≡ a → File (XsFunction a ∷ all) ts → File (XsFunction f ∷ all) ts
-moved_file a f all ts e x = rw e x
+function_stands body all last ts us k o n c b d x r = absurd cc
 
 function_sound : (i k : Input) (f : FunctionTree) (all : List ItemTree) → function i ≡ Ok (f, k) → File all k.rest → File (XsFunction f ∷ all) i.rest
 unfolding function line next
@@ -312,7 +283,7 @@ function_sound i k f all h rest =
     let at5 : e.1.rest ≡ tail (tail (tail (tail (tail i.rest)))) = ap (λ (j : Input). j.rest) ex.1 ∙ ap tail at4 in
     let at6 : m.1.rest ≡ tail (tail (tail (tail (tail i.rest)))) = ap (λ (j : Input). j.rest) mx.1 ∙ at5 in
     let name_is : c.0 ≡ text_at (tail (tail i.rest)) = cx.1 ∙ ap text_at at2 in
-    moved_file (made (text_at (tail (tail i.rest))) p.0) f all i.rest (p.2 ∙ ap (λ n. made n p.0) name_is)
+    subst (λ (one : FunctionTree). File (XsFunction one ∷ all) i.rest) (sym (p.2 ∙ ap (λ n. made n p.0) name_is))
     (function_stands (stmts_of p.0) all i.last i.rest k.rest ax.0
     (ap (head_is (is_sign (codes "("))) (sym at1) ∙ bx.0) (ap (head_is is_name) (sym at2) ∙ cx.0) (ap (head_is (is_sign (codes ")"))) (sym at3) ∙ dx.0)
     (ap (head_is (is_sign (codes "{"))) (sym at4) ∙ ex.0) (ap (head_is (is_key (codes "dXSARGS"))) (sym at5) ∙ mx.0)
@@ -328,25 +299,22 @@ nothing_left : (ts : List Token) → length ts ≡ 0 → File [] ts
 nothing_left [] e = g.nothing
 nothing_left (t1 ∷ ts) e = absurd (omega arith)
 
-is_nought : (n : ℕ) → (n == 0) ≡ true → n ≡ 0
-is_nought n e = grind arith
+-- items from a place to the end
+abbrev MoreItems : Input → List ItemTree → Type 0
+MoreItems i all = File all i.rest
 
--- what goes on from the items so far
-abbrev ItemsGoOn : List ItemTree → List ItemTree → Input → Type 0
-ItemsGoOn done found i = (fs : List ItemTree) × (found ≡ done ++ fs) × File fs i.rest
-
-items_sound : (n : ℕ) (done found : List ItemTree) (i k : Input) → items_from n done i ≡ Ok (found, k) → ItemsGoOn done found i
+items_sound : (n : ℕ) (done found : List ItemTree) (i k : Input) → items_from n done i ≡ Ok (found, k) → GoesOn done found (MoreItems i)
 unfolding items_from left
 items_sound zero done found i k h = by (length i.rest == 0) refl h
   where
-    by : (b : Bool) → (length i.rest == 0) ≡ b → (if b then Ok (done, i) else refuse i) ≡ Ok (found, k) → ItemsGoOn done found i
-    by true e h = let s = same_ok done found i k h in ([], sym s.0 ∙ sym (append-nil done), nothing_left i.rest (is_nought (length i.rest) e))
+    by : (b : Bool) → (length i.rest == 0) ≡ b → (if b then Ok (done, i) else refuse i) ≡ Ok (found, k) → GoesOn done found (MoreItems i)
+    by true e h = let s = same_ok done found i k h in ([], sym s.0 ∙ sym (append-nil done), nothing_left i.rest (eqb-true (length i.rest) 0 e))
     by false e h = absurd cc
 items_sound (suc n) done found i k h = by (λ one j h'. items_sound n (done ++ XsFunction one ∷ []) found j k h') (length i.rest == 0) refl h
   where
-    by : ((one : FunctionTree) (j : Input) → items_from n (done ++ XsFunction one ∷ []) j ≡ Ok (found, k) → ItemsGoOn (done ++ XsFunction one ∷ []) found j)
-        → (b : Bool) → (length i.rest == 0) ≡ b → (if b then Ok (done, i) else (function >>= λ one. items_from n (done ++ XsFunction one ∷ [])) i) ≡ Ok (found, k) → ItemsGoOn done found i
-    by again true e h = let s = same_ok done found i k h in ([], sym s.0 ∙ sym (append-nil done), nothing_left i.rest (is_nought (length i.rest) e))
+    by : ((one : FunctionTree) (j : Input) → items_from n (done ++ XsFunction one ∷ []) j ≡ Ok (found, k) → GoesOn (done ++ XsFunction one ∷ []) found (MoreItems j))
+        → (b : Bool) → (length i.rest == 0) ≡ b → (if b then Ok (done, i) else (function >>= λ one. items_from n (done ++ XsFunction one ∷ [])) i) ≡ Ok (found, k) → GoesOn done found (MoreItems i)
+    by again true e h = let s = same_ok done found i k h in ([], sym s.0 ∙ sym (append-nil done), nothing_left i.rest (eqb-true (length i.rest) 0 e))
     by again false e h =
         let p = bind_ok (function i) (λ one. items_from n (done ++ XsFunction one ∷ [])) found k h in
         let rest = again p.0 p.1 p.3 in
@@ -354,9 +322,6 @@ items_sound (suc n) done found i k h = by (λ one j h'. items_sound n (done ++ X
 
 items_are : (found : List ItemTree) (file : FileTree) → ◌≡◌ {A = Result FileTree Fault} (Ok (record { model = model.Lp64; items = found })) (Ok file) → file.items ≡ found
 items_are found file h = let same : record { model = model.Lp64; items = found } ≡ file = cc in ap (λ (f : FileTree). f.items) (sym same)
-
-moved_items : (found : List ItemTree) (file : FileTree) (ts : List Token) → file.items ≡ found → File found ts → File file.items ts
-moved_items found file ts e x = rw e x
 
 tree_sound : (i : Input) (file : FileTree) → tree_of i ≡ Ok file → File file.items i.rest
 unfolding tree_of items
@@ -366,7 +331,7 @@ tree_sound i file h = by (items_from (left i) [] i) refl h
     by (Ok p) e h =
         let x = items_sound (left i) [] p.0 i p.1 e in
         let all : File p.0 i.rest = rw x.1 x.2 in
-        moved_items p.0 file i.rest (items_are p.0 file h) all
+        subst (MoreItems i) (sym (items_are p.0 file h)) all
     by (Err f) e h = absurd cc
 
 file_sound : (kind : FileOf) (bytes : List ℕ) (file : FileTree) → file_of kind bytes ≡ Ok file → IsTextOf kind bytes file.items

@@ -1,7 +1,7 @@
 -- What is left behind the stars of a type.
 use Rattle.std.proofs.Common.{◌≡◌, suc, ◌+◌, Bool, true, false, List, [], ◌∷◌, drop, refl, arith, ap, ◌∙◌}
 use Rattle.std.specs.Prelude.{codes, if◌then◌else◌}
-use Rattle.xs_csyn.specs.declared.token.Token.{Token}
+use Rattle.xs_ctok.specs.declared.token.Token.{Token}
 use Rattle.xs_csyn.specs.Input.{is_sign}
 use Rattle.xs_csyn.specs.Exprs.{count_stars, behind_stars}
 

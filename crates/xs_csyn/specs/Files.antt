@@ -4,12 +4,13 @@ use Rattle.xs_base.specs.declared.fault.Fault.{Fault}
 use Rattle.xs_base.specs.declared.place.FileOf.{FileOf}
 use Rattle.xs_base.specs.declared.place.Line.{Line}
 use Rattle.xs_base.specs.Lines.{lines_of}
-use Rattle.xs_csyn.specs.declared.token.Token.{Token}
+use Rattle.xs_ctok.specs.declared.token.Token.{Token}
 use Rattle.xs_values.specs.declared.model.DataModel.TheVariants as model
 use Rattle.xs_csyn.specs.Tree.{FunctionTree, ItemTree, XsFunction, FileTree, stmts_of}
-use Rattle.xs_csyn.specs.Input.{Input, Reader, Outcome, ◌>>=◌, ◌>>◌, pure, refuse, here, expect, expect_key, sees_key, left, a_name}
+use Rattle.xs_csyn.specs.Input.{Input, Reader, Outcome, refuse, here, expect, expect_key, sees_key, left, a_name}
+use Rattle.xs_base.specs.Readers.{◌>>=◌, ◌>>◌, pure}
 use Rattle.xs_csyn.specs.Stmts.{max_nesting, stmt, parts}
-use Rattle.xs_csyn.specs.Tokens.{tokens_of}
+use Rattle.xs_ctok.specs.Tokens.{tokens_of}
 
 -- the word that begins the body of each XS function has to come next
 unfoldable pub body_begins : Reader (Unit {0})

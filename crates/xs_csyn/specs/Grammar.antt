@@ -2,15 +2,16 @@
 use Rattle.std.specs.Prelude.{◌≡◌, ℕ, suc, true, false, List, [], ◌∷◌, codes, Ok}
 use Rattle.std.specs.Str.{bytes_eq}
 use Rattle.xs_base.specs.declared.place.FileOf.{FileOf}
-use Rattle.xs_csyn.specs.declared.token.Sort.TheVariants as sort
-use Rattle.xs_csyn.specs.declared.token.Token.{Token}
+use Rattle.xs_ctok.specs.declared.token.Sort.TheVariants as sort
+use Rattle.xs_ctok.specs.declared.token.Token.{Token}
 use Rattle.xs_csyn.specs.declared.tree.BinaryOp.TheVariants as op
 use Rattle.xs_csyn.specs.declared.tree.CType.{CType}
 use Rattle.xs_csyn.specs.declared.tree.PerlForm.TheVariants as form
 use Rattle.xs_csyn.specs.Tree.{ExprTree, Var, Num, Str, Call, Set, Two, Cast, ExprTrees, NoExprs, MoreExprs, PlaceTree, VarPlace, StPlace, StmtTree, Block, Declare, Effect, If, Perl, StmtTrees, NoStmts, MoreStmts, ItemTree, XsFunction}
-use Rattle.xs_csyn.specs.Input.{is_sign, is_key, is_quoted, is_type_word, is_name, head_is}
+use Rattle.xs_csyn.specs.Input.{is_sign, is_key, is_quoted, is_type_word, is_name}
+use Rattle.xs_base.specs.Readers.{head_is}
 use Rattle.xs_csyn.specs.Stmts.{is_word_form, is_new_xs}
-use Rattle.xs_csyn.specs.Tokens.{tokens_of}
+use Rattle.xs_ctok.specs.Tokens.{tokens_of}
 
 -- the token is this punctuator
 abbrev pub Is : List ℕ → Token → Type 0

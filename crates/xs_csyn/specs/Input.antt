@@ -5,10 +5,13 @@ use Rattle.xs_base.specs.declared.fault.Fault.{Fault}
 use Rattle.xs_base.specs.declared.fault.Refuse.{Refuse}
 use Rattle.xs_base.specs.declared.place.FileOf.{FileOf}
 use Rattle.xs_base.specs.Reading.{Fails}
-use Rattle.xs_csyn.specs.declared.token.Sort.{Sort}
-use Rattle.xs_csyn.specs.declared.token.Sort.TheVariants as sort
-use Rattle.xs_csyn.specs.declared.token.Token.{Token}
-use Rattle.xs_csyn.specs.Words.{is_among, no_names, type_words}
+use Rattle.xs_ctok.specs.declared.token.Sort.{Sort}
+use Rattle.xs_ctok.specs.declared.token.Sort.TheVariants as sort
+use Rattle.xs_ctok.specs.declared.token.Token.{Token}
+use Rattle.xs_ctok.specs.Words.{no_names, type_words}
+use Rattle.xs_base.specs.Names.{is_among}
+use Rattle.xs_base.specs.Readers as readers
+use Rattle.xs_base.specs.Readers.{head_is, tail, pure, ◌>>◌}
 
 -- the tokens that are left, the file, and the line of a fault at the early end
 pub record Input : Type 0 where
@@ -54,14 +57,6 @@ abbrev pub is_name : Token → Bool
 is_name t = is_name_by t.sort t.text
 
 -- ---- the next token
-
-abbrev pub head_is : (Token → Bool) → List Token → Bool
-head_is p [] = false
-head_is p (t ∷ ts) = p t
-
-abbrev pub tail : List Token → List Token
-tail [] = []
-tail (t ∷ ts) = ts
 
 abbrev pub line_at : ℕ → List Token → ℕ
 line_at last [] = last
@@ -110,30 +105,12 @@ fault code i = record { file = i.file; line = line i; code = code; word = [] }
 
 -- ---- readers
 
+-- what reading tokens comes to
 abbrev pub Outcome : Type 0 → Type 0
-Outcome A = Result (A × Input) Fault
+Outcome A = readers.Outcome Input Fault A
 
 abbrev pub Reader : Type 0 → Type 0
-Reader A = Input → Outcome A
-
-abbrev pub and_then : {A B : Type 0} → Outcome A → (A → Reader B) → Outcome B
-and_then (Ok p) f = f p.0 p.1
-and_then (Err e) f = Err e
-
-infixl 10 ◌>>=◌
-abbrev pub ◌>>=◌ : {A B : Type 0} → Reader A → (A → Reader B) → Reader B
-p >>= f = λ i. and_then (p i) f
-
-infixl 10 ◌>>◌
-abbrev pub ◌>>◌ : {A B : Type 0} → Reader A → Reader B → Reader B
-p >> q = p >>= (λ _. q)
-
-abbrev pub pure : {A : Type 0} → A → Reader A
-pure a = λ i. Ok (a, i)
-
-infixr 11 ◌<$>◌
-abbrev pub ◌<$>◌ : {A B : Type 0} → (A → B) → Reader A → Reader B
-f <$> p = p >>= (λ x. pure (f x))
+Reader A = readers.Reader Input Fault A
 
 -- no reading here
 abbrev pub refuse : {A : Type 0} → Reader A
@@ -159,17 +136,21 @@ after text i = if sees text i then next i else i
 abbrev pub eat : List ℕ → Reader Bool
 eat text = λ i. Ok (sees text i, after text i)
 
+-- takes the next token, if it is one that is wanted
+abbrev pub taken : Bool → Reader (List ℕ)
+taken is_wanted = λ i. if is_wanted then take_token i else refuse i
+
 unfoldable pub expect : List ℕ → Reader (Unit {0})
-expect text = λ i. if sees text i then Ok (tt, next i) else refuse i
+expect text = λ i. (taken (sees text i) >> pure tt) i
 
 unfoldable pub expect_key : List ℕ → Reader (Unit {0})
-expect_key text = λ i. if sees_key text i then Ok (tt, next i) else refuse i
+expect_key text = λ i. (taken (sees_key text i) >> pure tt) i
 
 unfoldable pub a_name : Reader (List ℕ)
-a_name = λ i. if sees_name i then take_token i else refuse i
+a_name = λ i. taken (sees_name i) i
 
 unfoldable pub a_type_word : Reader (List ℕ)
-a_type_word = λ i. if sees_type i then take_token i else refuse i
+a_type_word = λ i. taken (sees_type i) i
 
 -- ---- what a function that reads ensures
 

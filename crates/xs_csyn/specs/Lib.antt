@@ -1,9 +1,5 @@
 pub mod Tree
 pub mod View
-pub mod Lexemes
-pub mod Pieces
-pub mod Words
-pub mod Tokens
 pub mod Input
 pub mod Exprs
 pub mod Stmts

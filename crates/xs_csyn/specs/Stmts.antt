@@ -2,11 +2,12 @@
 use Rattle.std.specs.Prelude.{ℕ, zero, suc, Bool, false, ◌&&◌, ◌||◌, if◌then◌else◌, List, [], ◌∷◌, ◌++◌, codes}
 use Rattle.std.specs.Str.{bytes_eq}
 use Rattle.xs_csyn.specs.declared.node.Level.TheVariants as level
-use Rattle.xs_csyn.specs.declared.token.Token.{Token}
+use Rattle.xs_ctok.specs.declared.token.Token.{Token}
 use Rattle.xs_csyn.specs.declared.tree.PerlForm.{PerlForm}
 use Rattle.xs_csyn.specs.declared.tree.PerlForm.TheVariants as form
 use Rattle.xs_csyn.specs.Tree.{ExprTree, StmtTree, Block, Declare, Effect, If, Perl, stmts_of}
-use Rattle.xs_csyn.specs.Input.{Input, Reader, ◌>>=◌, ◌>>◌, pure, refuse, too_deep, here, take_token, eat, expect, sees, sees_key, sees_type, left, is_sign, is_key, is_quoted, is_name, a_name}
+use Rattle.xs_csyn.specs.Input.{Input, Reader, refuse, too_deep, here, take_token, eat, expect, sees, sees_key, sees_type, left, is_sign, is_key, is_quoted, is_name, a_name}
+use Rattle.xs_base.specs.Readers.{◌>>=◌, ◌>>◌, pure}
 use Rattle.xs_csyn.specs.Exprs.{expr, a_type}
 
 abbrev pub max_nesting : ℕ

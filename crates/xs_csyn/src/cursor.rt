@@ -7,11 +7,10 @@ ghost use Rattle.xs_csyn.specs.Input as spec;
 ghost use Rattle.xs_csyn.specs.Input.{Reads};
 ghost use Rattle.xs_csyn.specs.Stmts as stmts;
 
-use crate::token::{Sort, Token};
-use crate::words::{is_no_name, is_type_word};
 use std::alloc::Global;
 use std::marker::Model;
 use xs_base::{Bytes, Fault, FileOf, Refuse};
+use xs_ctok::{Sort, Token, is_no_name, is_type_word};
 
 #[derive(Drop)]
 pub struct Cursor<'a> {
@@ -248,17 +247,25 @@ impl<'a> Cursor<'a> {
         found
     }
 
+    /// Takes the next token, which has to be one that is wanted, and gives its text.
+    fn taken(&mut self, alloc: Global, is_wanted: bool) -> Result<&'a [u8], Refuse>
+        ensures { Reads (λ b. b.now) (spec.taken is_wanted self.old) result self.new }
+    {
+        if is_wanted {
+            Ok(self.take())
+        } else {
+            Err(self.refuse(alloc, 704))
+        }
+    }
+
     /// Takes this punctuator, which has to come next.
     #[tactic(auto, unfolding(crate::specs::Input::expect))]
     pub fn expect(&mut self, alloc: Global, text: &[u8]) -> Result<(), Refuse>
         ensures { Reads (λ u. u) (spec.expect text.now self.old) result self.new }
     {
-        if self.sees(text) {
-            self.take();
-            Ok(())
-        } else {
-            Err(self.refuse(alloc, 704))
-        }
+        let is_wanted = self.sees(text);
+        self.taken(alloc, is_wanted)?;
+        Ok(())
     }
 
     /// Takes this word of the grammar, which has to come next.
@@ -266,12 +273,9 @@ impl<'a> Cursor<'a> {
     pub fn expect_key(&mut self, alloc: Global, text: &[u8]) -> Result<(), Refuse>
         ensures { Reads (λ u. u) (spec.expect_key text.now self.old) result self.new }
     {
-        if self.sees_key(text) {
-            self.take();
-            Ok(())
-        } else {
-            Err(self.refuse(alloc, 704))
-        }
+        let is_wanted = self.sees_key(text);
+        self.taken(alloc, is_wanted)?;
+        Ok(())
     }
 
     /// Takes a word that may be a name, which has to come next.
@@ -279,11 +283,8 @@ impl<'a> Cursor<'a> {
     pub fn name(&mut self, alloc: Global) -> Result<Bytes, Refuse>
         ensures { Reads (λ b. b) (spec.a_name self.old) result self.new }
     {
-        if self.sees_name() {
-            Ok(Bytes::from_slice(alloc, self.take())?)
-        } else {
-            Err(self.refuse(alloc, 704))
-        }
+        let is_wanted = self.sees_name();
+        Ok(Bytes::from_slice(alloc, self.taken(alloc, is_wanted)?)?)
     }
 
     /// Takes a word by which a type is told, which has to come next.
@@ -291,10 +292,7 @@ impl<'a> Cursor<'a> {
     pub fn type_word(&mut self, alloc: Global) -> Result<Bytes, Refuse>
         ensures { Reads (λ b. b) (spec.a_type_word self.old) result self.new }
     {
-        if self.sees_type() {
-            Ok(Bytes::from_slice(alloc, self.take())?)
-        } else {
-            Err(self.refuse(alloc, 704))
-        }
+        let is_wanted = self.sees_type();
+        Ok(Bytes::from_slice(alloc, self.taken(alloc, is_wanted)?)?)
     }
 }

@@ -8,10 +8,10 @@ ghost use Rattle.xs_csyn.specs.View.{found, found_all};
 use crate::building::{assigned, called, cast_to, joined, leaf, no_nodes, place_of, with_more};
 use crate::cursor::Cursor;
 use crate::node::{Level, Node, Nodes};
-use crate::token::Sort;
 use crate::{BinaryOp, CType, Expr};
 use std::alloc::Global;
 use xs_base::{Bytes, Refuse};
+use xs_ctok::Sort;
 
 /// The operator that comes next, if it stands between operands of this level.
 #[tactic(auto, unfolding(crate::specs::Exprs::operator))]

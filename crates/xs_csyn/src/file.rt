@@ -11,11 +11,11 @@ ghost use Rattle.xs_csyn.specs.View.{file_tree, function_tree, item_trees};
 ghost use Rattle.xs_values.specs.declared.model.DataModel.TheVariants as model;
 
 use crate::cursor::Cursor;
-use crate::lexing::tokens;
 use crate::stmts::{MAX_NESTING, parts};
 use crate::{CFile, FileItem, XsFun};
 use std::alloc::Global;
 use xs_base::{Bytes, FileOf, Items, Line, Memory, Refuse, lines};
+use xs_ctok::tokens;
 use xs_values::DataModel;
 
 /// The word that begins the body of each XS function has to come next (perlxs). It is not taken.
@@ -88,7 +88,7 @@ fn last_line(alloc: Global, src: &Bytes) -> Result<u32, Memory>
     Ok(last_of(all.as_slice()))
 }
 
-#[tactic(auto, using(crate::proofs::Few::tokens_few), unfolding(crate::specs::Files::file_of, crate::specs::Files::tree_of))]
+#[tactic(auto, using(xs_ctok::proofs::Few::tokens_few), unfolding(crate::specs::Files::file_of, crate::specs::Files::tree_of))]
 fn read_exactly(alloc: Global, src: &Bytes, file: FileOf) -> Result<CFile, Refuse>
     requires { length src.now < 2 ^ 32 - 1 }
     ensures { GivesBy file_tree result (spec.file_of file src.now) }

@@ -1,6 +1,6 @@
 //! Texts and their faults.
 
-use crate::{is_passed_line, read_file};
+use crate::read_file;
 use std::alloc::Global;
 use std::process::Abort;
 use std::test::Fail;
@@ -30,75 +30,23 @@ fn add(src: &mut Bytes, text: &str, times: u8) -> Result<(), Memory> {
 
 #[test]
 fn texts(rt: HostRuntime) -> Result<(), Fail> {
-    let rows: [(&str, u16, u32); 6] = [
+    let rows: [(&str, u16, u32); 8] = [
         (GLUE, 0, 0),
         ("", 0, 0),
         ("\n\n", 0, 0),
         ("XS(XS_x)\n{\n\n", 704, 2),
         ("XS(XS_x)\n{\n int a; dXSARGS; }", 704, 3),
         ("XS(int)\n{ dXSARGS; }", 704, 1),
-    ];
-    for (text, code, line) in rows {
-        let src = Bytes::from_slice(rt.alloc(), text.as_bytes())?;
-        assert_eq!(rt; fault_of(&rt, rt.alloc(), &src), (code, line), "{text}");
-    }
-    Ok(())
-}
-
-/// Lines that begin with `#`.
-#[test]
-fn directives(rt: HostRuntime) -> Result<(), Fail> {
-    let rows: [(&str, u16, u32); 19] = [
-        ("#include \"x\"\n # include <x>\n\t#\tinclude@\n", 0, 0),
-        (
-            "#define PERL_NO_GET_CONTEXT\n #\tdefine \t PERL_NO_GET_CONTEXT \t",
-            0,
-            0,
-        ),
-        ("#include <x>\r\n#define PERL_NO_GET_CONTEXT\r\n\r\n", 0, 0),
-        ("#define PERL_NO_GET_CONTEXT\r", 706, 1),
-        ("#define PERL_NO_GET_CONTEXT\r\r\n", 706, 1),
-        ("\n#define N 1\n", 706, 2),
-        ("#define PERL_NO_GET_CONTEXT 1", 706, 1),
-        ("#define PERL_NO_GET_CONTEXTS", 706, 1),
-        ("#define", 706, 1),
-        ("#defined", 701, 1),
-        ("#include1 <x>", 701, 1),
-        ("#if 1", 701, 1),
-        ("\n\n#\n", 701, 3),
-        ("int a; #include \"x\"\n", 701, 1),
-        ("/* */ #include <x>\n", 701, 1),
-        ("/*\n*/ #include <x>\n", 701, 2),
-        ("/* */\n#include <x>\n", 0, 0),
-        ("#include <x> /*\n", 0, 0),
         (
             "XS(XS_x)\n{\n#include <x>\ndXSARGS;\n #include <y>\n}\n",
             0,
             0,
         ),
+        ("XS(XS_x)\n#define N 1\n", 706, 2),
     ];
     for (text, code, line) in rows {
         let src = Bytes::from_slice(rt.alloc(), text.as_bytes())?;
         assert_eq!(rt; fault_of(&rt, rt.alloc(), &src), (code, line), "{text}");
-    }
-    Ok(())
-}
-
-#[test]
-fn passed_lines(rt: HostRuntime) -> Result<(), Fail> {
-    let rows: [(&str, bool); 9] = [
-        ("", true),
-        (" \t", true),
-        (" #\tinclude <x>", true),
-        ("#define PERL_NO_GET_CONTEXT ", true),
-        ("#define PERL_NO_GET_CONTEXT\r", false),
-        ("#include <x>\n", false),
-        ("#define N 1", false),
-        ("/* */", false),
-        ("int a;", false),
-    ];
-    for (line, is_passed) in rows {
-        assert_eq!(rt; is_passed_line(line.as_bytes()), is_passed, "{line}");
     }
     Ok(())
 }

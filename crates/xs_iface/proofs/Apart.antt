@@ -1,21 +1,21 @@
 -- Names of which none stands twice.
-use Rattle.std.proofs.Common.{◌≡◌, ℕ, ◌+◌, ◌≤◌, ◌||◌, Bool, true, false, List, [], ◌∷◌, ◌++◌, length, map, Option, None, Some, refl, ap, ◌∙◌, subst, arith}
+use Rattle.std.proofs.Common.{◌≡◌, ℕ, ◌+◌, ◌≤◌, ◌||◌, Bool, true, false, List, [], ◌∷◌, ◌++◌, length, map, Option, None, Some, refl, sym, ◌∙◌, subst, arith}
+use Rattle.std.proofs.lemmas.Bool.{or_from, or_parts}
 use Rattle.std.proofs.lemmas.Bool.Decides.{nat_tests}
+use Rattle.std.proofs.lemmas.List.Folds.{list_any-append}
 use Rattle.std.proofs.lemmas.List.{map-append, length-append}
 use Rattle.std.specs.List.{list_any}
+use Rattle.std.specs.Option.{option_or}
 use Rattle.std.specs.Prelude.{nat_le, if◌then◌else◌}
 use Rattle.std.specs.Str.{bytes_eq}
 use Rattle.xs_base.specs.declared.fault.Fault.{Fault}
-use Rattle.xs_iface.specs.Iface.{fault_at, first_fault, name_fault, or_later, param_fault}
-use Rattle.xs_iface.specs.Paragraph.{is_among}
+use Rattle.xs_base.specs.Names.{is_among}
+use Rattle.xs_iface.specs.Iface.{first_fault, name_fault, param_fault}
+use Rattle.xs_sections.specs.Faults.{fault_at}
 use Rattle.xs_iface.specs.SumForm.{All, Differ}
 use Rattle.xs_iface.specs.declared.xsub.Xsub.{Xsub}
 
-neither : (a b : Bool) → (a || b) ≡ false → (a ≡ false) × (b ≡ false)
-neither true b h = absurd cc
-neither false b h = (refl, h)
-
-no_first : (a b : Option Fault) → or_later a b ≡ None → (a ≡ None) × (b ≡ None)
+no_first : (a b : Option Fault) → option_or a b ≡ None → (a ≡ None) × (b ≡ None)
 no_first None b h = (refl, h)
 no_first (Some f) b h = absurd cc
 
@@ -30,11 +30,9 @@ Apart before (n ∷ ns) = (is_among before n ≡ false) × Apart (before ++ n �
 
 -- a name that is not among names and a last one
 not_last : (before : List (List ℕ)) (last name : List ℕ) → is_among (before ++ last ∷ []) name ≡ false → (is_among before name ≡ false) × (bytes_eq last name ≡ false)
-not_last [] last name h = let g = neither (bytes_eq last name) false h in (refl, g.0)
-not_last (b ∷ before) last name h =
-    let g = neither (bytes_eq b name) (is_among (before ++ last ∷ []) name) h in
-    let r = not_last before last name g.1 in
-    (ap (λ t. t || is_among before name) g.0 ∙ r.0, r.1)
+not_last before last name h =
+    let g = or_parts (is_among before name) (bytes_eq last name || false) (sym (list_any-append (λ n. bytes_eq n name) before (last ∷ [])) ∙ h) in
+    (g.0, (or_parts (bytes_eq last name) false g.1).0)
 
 -- names that are all apart from one
 apart_from : (before : List (List ℕ)) (last : List ℕ) (ns : List (List ℕ)) → All (λ (n : List ℕ). is_among (before ++ last ∷ []) n ≡ false) ns
@@ -43,7 +41,7 @@ apart_from before last [] h = (tt, refl)
 apart_from before last (n ∷ ns) h =
     let g = not_last before last n h.0 in
     let r = apart_from before last ns h.1 in
-    ((g.0, r.0), ap (λ t. t || list_any (λ (later : List ℕ). bytes_eq last later) ns) g.1 ∙ r.1)
+    ((g.0, r.0), or_from (bytes_eq last n) (list_any (λ (later : List ℕ). bytes_eq last later) ns) g.1 r.1)
 
 pub record AreApart (before ns : List (List ℕ)) : Type 0 where
   pub differ : Differ ns
@@ -91,7 +89,7 @@ names_apart before [] h = (tt, tt)
 names_apart before (x ∷ xs) h =
     let g = no_first (name_fault before x) (first_fault name_fault (before ++ x ∷ []) xs) h in
     let f = unless (is_among (map (λ (e : Xsub). e.full) before) x.full || is_among (map (λ (e : Xsub). e.glue) before) x.glue) (fault_at x.line 407 x.full) None g.0 in
-    let n = neither (is_among (map (λ (e : Xsub). e.full) before) x.full) (is_among (map (λ (e : Xsub). e.glue) before) x.glue) f.0 in
+    let n = or_parts (is_among (map (λ (e : Xsub). e.full) before) x.full) (is_among (map (λ (e : Xsub). e.glue) before) x.glue) f.0 in
     let r = names_apart (before ++ x ∷ []) xs g.1 in
     let P : List (List ℕ) → Type 0 = λ ns. Apart ns (map (λ (e : Xsub). e.full) xs) in
     let Q : List (List ℕ) → Type 0 = λ ns. Apart ns (map (λ (e : Xsub). e.glue) xs) in

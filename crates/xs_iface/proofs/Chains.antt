@@ -1,8 +1,9 @@
 -- Words with a divider between them.
 use Rattle.std.proofs.Common.{◌≡◌, ℕ, suc, List, [], ◌∷◌, ◌++◌, Some, sym, ap, ◌∙◌, append_assoc}
-use Rattle.xs_iface.specs.declared.scan.Class.TheVariants.{Word}
+use Rattle.xs_base.specs.declared.runs.ByteClass.TheVariants.{Word}
 use Rattle.xs_base.specs.Scanning.{after_word}
-use Rattle.xs_iface.specs.Scan.{Chain, behind, chain_within, front_of, linked}
+use Rattle.xs_base.specs.Runs.{behind, front_of}
+use Rattle.xs_iface.specs.Scan.{Chain, chain_within, linked}
 
 -- a chain with words in front
 abbrev pub behind_words : List (List ℕ) → Chain → Chain

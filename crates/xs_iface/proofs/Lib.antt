@@ -3,5 +3,4 @@ pub mod Chains
 pub mod Collecting
 pub mod NameBytes
 pub mod Noted
-pub mod Runs
 pub mod Sums

@@ -4,7 +4,7 @@ use Rattle.std.proofs.lemmas.Bool.Decides.{nat_tests}
 use Rattle.std.specs.List.{list_any}
 use Rattle.std.specs.Str.{bytes_eq}
 use denote.Ref.{Bor}
-use Rattle.xs_iface.specs.Paragraph.{is_among}
+use Rattle.xs_base.specs.Names.{is_among}
 use Rattle.xs_iface.specs.Repeats.{names_of}
 
 pub same_both_ways : (xs ys : List ℕ) → bytes_eq xs ys ≡ bytes_eq ys xs

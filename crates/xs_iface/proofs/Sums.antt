@@ -1,10 +1,12 @@
 -- What holds of the module of each XS file whose XSUBs are sums.
-use Rattle.std.proofs.Common.{◌≡◌, ℕ, zero, suc, ◌≤◌, ◌<◌, ◌&&◌, ◌||◌, Bool, true, false, not, List, [], ◌∷◌, ◌++◌, codes, length, map, Option, None, Some, Result, Ok, Err, refl, sym, ap, ◌∙◌, subst, arith}
+use Rattle.std.proofs.Common.{◌≡◌, ℕ, zero, suc, ◌≤◌, ◌<◌, ◌&&◌, ◌||◌, Bool, true, false, not, List, [], ◌∷◌, ◌++◌, codes, length, map, Option, None, Some, Result, Ok, Err, refl, sym, ap, subst, arith}
+use Rattle.std.proofs.lemmas.Bool.{and_parts}
 use Rattle.std.proofs.lemmas.Bool.Decides.{nat_tests}
 use Rattle.std.proofs.lemmas.List.{length-map}
+use Rattle.std.proofs.lemmas.Option.{cond_some, option_and_then_some}
 use Rattle.std.specs.List.{AllByRecursion, list_all}
-use Rattle.std.specs.Option.{option_map}
-use Rattle.std.specs.Prelude.{option_and_then, if◌then◌else◌, nat_le}
+use Rattle.std.specs.Option.{option_map, unwrap_or}
+use Rattle.std.specs.Prelude.{option_and_then, if◌then◌else◌, is_some, nat_le}
 use Rattle.std.specs.Str.{bytes_eq}
 use Rattle.xs_base.specs.Reading.{◌>>=◌}
 use Rattle.xs_base.specs.declared.fault.Fault.{Fault}
@@ -13,21 +15,25 @@ use Rattle.xs_iface.specs.declared.drafts.Draft.{Draft}
 use Rattle.xs_iface.specs.declared.paragraph.Interface.{Interface}
 use Rattle.xs_iface.specs.declared.paragraph.Paragraph.{Paragraph}
 use Rattle.xs_iface.specs.declared.paragraph.Sum.{Sum}
-use Rattle.xs_iface.specs.declared.scan.Class.TheVariants.{Blank, Name, Word}
+use Rattle.xs_base.specs.declared.runs.ByteClass.TheVariants.{Blank, Name, Word}
 use Rattle.xs_iface.specs.declared.terms.TheConstants.{INT_MAX, MOST_TERMS}
 use Rattle.xs_iface.specs.declared.xsub.Module.{Module}
 use Rattle.xs_iface.specs.declared.xsub.Param.{Param}
 use Rattle.xs_iface.specs.declared.xsub.Term.TheVariants.{Literal, Parameter}
 use Rattle.xs_iface.specs.declared.xsub.Xsub.{Xsub}
-use Rattle.xs_iface.specs.Iface.{body_paragraph, collect, draft_from, draft_of, draft_or_fault, first_fault, interface_fault, module_from, module_of, module_with, name_fault, param_at, part_line, perl_name, unless_fault, xsub_from, xsub_of}
-use Rattle.xs_iface.specs.Paragraph.{block_text, interface_of, interface_with, is_among, is_frame, is_literal, is_term, is_value, literal_of, paragraph_from, paragraph_of, paragraph_with, place_of, sum_of, sum_with, term_of, value_or_nought}
-use Rattle.xs_base.specs.Scanning.{after_word, begins_word, is_identifier, is_word_byte, value_of_digits}
-use Rattle.xs_iface.specs.Scan.{Chain, behind, belongs, chain_of, chain_within, front_of, linked}
+use Rattle.xs_iface.specs.Iface.{body_paragraph, collect, draft_from, draft_of, draft_or_fault, first_fault, interface_fault, module_from, module_of, module_with, name_fault, param_at, part_line, perl_name, xsub_from, xsub_of}
+use Rattle.xs_iface.specs.Paragraph.{block_text, interface_of, interface_with, is_frame, is_literal, is_term, literal_of, paragraph_from, paragraph_of, paragraph_with, place_of, sum_of, sum_with, term_of}
+use Rattle.xs_base.proofs.FrontRuns.{front_belongs}
+use Rattle.xs_base.proofs.Qualified.{identifier_bytes}
+use Rattle.xs_base.specs.Names.{is_among}
+use Rattle.xs_base.specs.Runs.{behind, belongs, front_of}
+use Rattle.xs_base.specs.Scanning.{after_word, is_identifier, value_of_digits}
+use Rattle.xs_iface.specs.Scan.{Chain, chain_of, chain_within, linked}
 use Rattle.xs_iface.specs.SumForm.{All, Differ, IsSumModule, IsSumXsub, IsTermOf}
 use Rattle.xs_iface.specs.Words.{is_free, is_reserved}
 use Rattle.xs_iface.proofs.Apart.{are_apart, few_params, names_apart, params_apart}
-use Rattle.xs_iface.proofs.NameBytes.{both, full_bytes, glue_is, glue_tail, is_package, package_bytes, pair, perl_bytes, tail_bytes, word_first}
-use Rattle.xs_sections.specs.Cut.{split_of}
+use Rattle.xs_iface.proofs.NameBytes.{full_bytes, glue_is, glue_tail, package_bytes, perl_bytes, tail_bytes}
+use Rattle.xs_sections.specs.Cut.{split_of, unless_fault}
 use Rattle.xs_sections.specs.declared.sections.Part.{Part}
 use Rattle.xs_sections.specs.declared.sections.PartBody.{PartBody}
 use Rattle.xs_sections.specs.declared.sections.PartBody.TheVariants.{Para, Map}
@@ -35,15 +41,6 @@ use Rattle.xs_sections.specs.declared.sections.Sections.{Sections}
 use Rattle.xs_sections.proofs.Named.{are_named, is_name_or_empty}
 
 -- ---- what a chain of steps came from
-
-record Chained {A B : Type 0} (k : A → Option B) (o : Option A) (b : B) : Type 0 where
-  at : A
-  was : o ≡ Some at
-  then_is : k at ≡ Some b
-
-chained : {A B : Type 0} (k : A → Option B) (o : Option A) (b : B) → option_and_then k o ≡ Some b → Chained k o b
-chained k None b h = absurd cc
-chained k (Some a) b h = record { at = a; was = refl; then_is = h }
 
 record Mapped {A B : Type 0} (f : A → B) (o : Option A) (b : B) : Type 0 where
   at : A
@@ -53,15 +50,6 @@ record Mapped {A B : Type 0} (f : A → B) (o : Option A) (b : B) : Type 0 where
 mapped : {A B : Type 0} (f : A → B) (o : Option A) (b : B) → option_map f o ≡ Some b → Mapped f o b
 mapped f None b h = absurd cc
 mapped f (Some a) b h = record { at = a; was = refl; then_is = cc }
-
--- what a test let through
-record Passed {A : Type 0} (t : Bool) (a b : A) : Type 0 where
-  test : t ≡ true
-  same : a ≡ b
-
-passed : {A : Type 0} (t : Bool) (a b : A) → (if t then Some a else None) ≡ Some b → Passed t a b
-passed true a b h = record { test = refl; same = cc }
-passed false a b h = absurd cc
 
 record Bound {A B : Type 0} (r : Result A Fault) (k : A → Result B Fault) (b : B) : Type 0 where
   at : A
@@ -97,12 +85,12 @@ collected read P Q each (x ∷ xs) ys p h =
 within : (a b : ℕ) → nat_le a b ≡ true → a ≤ b
 within a b h = grind (arith, nat_tests)
 
-literal_fits : (word : List ℕ) (o : Option ℕ) → literal_of word ≡ o → is_value o ≡ true → value_or_nought o ≤ INT_MAX
+literal_fits : (word : List ℕ) (o : Option ℕ) → literal_of word ≡ o → is_some o ≡ true → unwrap_or o 0 ≤ INT_MAX
 literal_fits word None e h = absurd cc
 literal_fits word (Some value) e h =
-    let p = passed (is_literal word && nat_le (value_of_digits word) INT_MAX) (value_of_digits word) value e in
-    let q = both (is_literal word) (nat_le (value_of_digits word) INT_MAX) p.test in
-    subst (λ (v : ℕ). v ≤ INT_MAX) p.same (within (value_of_digits word) INT_MAX q.1)
+    let p = cond_some (is_literal word && nat_le (value_of_digits word) INT_MAX) (value_of_digits word) value e in
+    let q = and_parts (is_literal word) (nat_le (value_of_digits word) INT_MAX) p.0 in
+    subst (λ (v : ℕ). v ≤ INT_MAX) p.1 (within (value_of_digits word) INT_MAX q.1)
 
 place_within : (params : List (List ℕ)) (word : List ℕ) → is_among params word ≡ true → place_of params word < length params
 place_within [] word h = absurd cc
@@ -115,14 +103,14 @@ place_within (p ∷ ps) word h = by (bytes_eq p word) h (place_within ps word)
 term_fits : (params : List (List ℕ)) (word : List ℕ) → is_term params word ≡ true → IsTermOf (length params) (term_of params word)
 term_fits params word h = by (is_among params word) refl h
   where
-    by : (t : Bool) → is_among params word ≡ t → (t || is_value (literal_of word)) ≡ true
-        → IsTermOf (length params) (if t then Parameter (place_of params word) else Literal (value_or_nought (literal_of word)))
+    by : (t : Bool) → is_among params word ≡ t → (t || is_some (literal_of word)) ≡ true
+        → IsTermOf (length params) (if t then Parameter (place_of params word) else Literal (unwrap_or (literal_of word) 0))
     by true e g = place_within params word e
     by false e g = literal_fits word (literal_of word) refl g
 
 terms_fit : (params words : List (List ℕ)) → list_all (is_term params) words ≡ true → All (IsTermOf (length params)) (map (term_of params) words)
 terms_fit params [] h = tt
-terms_fit params (w ∷ ws) h = let g = both (is_term params w) (list_all (is_term params) ws) h in (term_fits params w g.0, terms_fit params ws g.1)
+terms_fit params (w ∷ ws) h = let g = and_parts (is_term params w) (list_all (is_term params) ws) h in (term_fits params w g.0, terms_fit params ws g.1)
 
 -- ---- paragraphs
 
@@ -142,13 +130,16 @@ record IsInterface (i : Interface) : Type 0 where
 
 interface_is : (text : List ℕ) (i : Interface) → interface_of text ≡ Some i → IsInterface i
 interface_is text i h =
-    let a = chained (λ (list : List ℕ). interface_with (front_of Word text) (chain_of (codes ", int ") list)) (after_word (codes "(int ") (behind Word text)) i h in
-    let names : Chain = chain_of (codes ", int ") a.at in
-    let made : Interface = record { function = front_of Word text; params = names.0 } in
-    let p = passed (bytes_eq names.1 (codes ")") && is_free (front_of Word text) && list_all is_free names.0) made i a.then_is in
-    let b = both (bytes_eq names.1 (codes ")") && is_free (front_of Word text)) (list_all is_free names.0) p.test in
-    let c = both (bytes_eq names.1 (codes ")")) (is_free (front_of Word text)) b.0 in
-    subst IsInterface p.same (record { function = c.1; params = b.1 })
+    option_and_then_some (λ (list : List ℕ). interface_with (front_of Word text) (chain_of (codes ", int ") list)) (after_word (codes "(int ") (behind Word text)) i h
+    (λ list found. ends (chain_of (codes ", int ") list))
+  where
+    ends : (names : Chain) → interface_with (front_of Word text) names ≡ Some i → IsInterface i
+    ends names e =
+        let made : Interface = record { function = front_of Word text; params = names.0 } in
+        let p = cond_some (bytes_eq names.1 (codes ")") && is_free (front_of Word text) && list_all is_free names.0) made i e in
+        let b = and_parts (bytes_eq names.1 (codes ")") && is_free (front_of Word text)) (list_all is_free names.0) p.0 in
+        let c = and_parts (bytes_eq names.1 (codes ")")) (is_free (front_of Word text)) b.0 in
+        subst IsInterface p.1 (record { function = c.1; params = b.1 })
 
 record IsSum (params : List (List ℕ)) (s : Sum) : Type 0 where
   blanks : list_all (belongs Blank) s.indent ≡ true
@@ -157,14 +148,6 @@ record IsSum (params : List (List ℕ)) (s : Sum) : Type 0 where
   words : s.words ≡ first ∷ more
   few : length s.words ≤ 32
   terms : list_all (is_term params) s.words ≡ true
-
-blank_run : (text : List ℕ) → list_all (belongs Blank) (front_of Blank text) ≡ true
-blank_run [] = refl
-blank_run (b ∷ bs) = by (belongs Blank b) refl (blank_run bs)
-  where
-    by : (t : Bool) → belongs Blank b ≡ t → list_all (belongs Blank) (front_of Blank bs) ≡ true → list_all (belongs Blank) (if t then b ∷ front_of Blank bs else []) ≡ true
-    by true e ih = ap (λ t. t && list_all (belongs Blank) (front_of Blank bs)) e ∙ ih
-    by false e ih = refl
 
 record HasWord (words : List (List ℕ)) : Type 0 where
   first : List ℕ
@@ -185,12 +168,12 @@ sum_with_is : (params : List (List ℕ)) (text : List ℕ) (words : Chain) (s : 
     → sum_with params (front_of Blank text) words ≡ Some s → IsSum params s
 sum_with_is params text words s some h =
     let made : Sum = record { indent = front_of Blank text; words = words.0 } in
-    let p = passed (bytes_eq words.1 (codes ";") && nat_le (length words.0) MOST_TERMS && list_all (is_term params) words.0) made s h in
-    let b = both (bytes_eq words.1 (codes ";") && nat_le (length words.0) MOST_TERMS) (list_all (is_term params) words.0) p.test in
-    let c = both (bytes_eq words.1 (codes ";")) (nat_le (length words.0) MOST_TERMS) b.0 in
+    let p = cond_some (bytes_eq words.1 (codes ";") && nat_le (length words.0) MOST_TERMS && list_all (is_term params) words.0) made s h in
+    let b = and_parts (bytes_eq words.1 (codes ";") && nat_le (length words.0) MOST_TERMS) (list_all (is_term params) words.0) p.0 in
+    let c = and_parts (bytes_eq words.1 (codes ";")) (nat_le (length words.0) MOST_TERMS) b.0 in
     let w = some c.0 in
-    subst (IsSum params) p.same (record {
-      blanks = blank_run text;
+    subst (IsSum params) p.1 (record {
+      blanks = front_belongs Blank text;
       first = w.first;
       more = w.more;
       words = w.is;
@@ -200,16 +183,19 @@ sum_with_is params text words s some h =
 
 sum_is : (params : List (List ℕ)) (text : List ℕ) (s : Sum) → sum_of params text ≡ Some s → IsSum params s
 sum_is params text s h =
-    let a = chained (λ (right : List ℕ). option_and_then (λ (terms : List ℕ). sum_with params (front_of Blank text) (chain_of (codes " + ") terms)) (after_word (codes "RETVAL = ") right)) (block_text text) s h in
-    let b = chained (λ (terms : List ℕ). sum_with params (front_of Blank text) (chain_of (codes " + ") terms)) (after_word (codes "RETVAL = ") a.at) s a.then_is in
-    sum_with_is params text (chain_of (codes " + ") b.at) s (has_word (codes " + ") b.at) b.then_is
+    option_and_then_some
+    (λ (right : List ℕ). option_and_then (λ (terms : List ℕ). sum_with params (front_of Blank text) (chain_of (codes " + ") terms)) (after_word (codes "RETVAL = ") right)) (block_text text) s h
+    (λ right stands e.
+    option_and_then_some (λ (terms : List ℕ). sum_with params (front_of Blank text) (chain_of (codes " + ") terms)) (after_word (codes "RETVAL = ") right) s e
+    (λ terms found. sum_with_is params text (chain_of (codes " + ") terms) s (has_word (codes " + ") terms)))
 
 paragraph_with_is : (interface sum : Line) (output_line : ℕ) (q : Paragraph) → paragraph_with interface sum output_line ≡ Some q → IsSumParagraph q
 paragraph_with_is interface sum output_line q h =
-    let a = chained (λ (names : Interface). option_map (paragraph_from interface sum output_line names) (sum_of names.params sum.text)) (interface_of interface.text) q h in
-    let b = mapped (paragraph_from interface sum output_line a.at) (sum_of a.at.params sum.text) q a.then_is in
-    let i = interface_is interface.text a.at a.was in
-    let s = sum_is a.at.params sum.text b.at b.was in
+    option_and_then_some (λ (names : Interface). option_map (paragraph_from interface sum output_line names) (sum_of names.params sum.text)) (interface_of interface.text) q h
+    (λ names was e.
+    let b = mapped (paragraph_from interface sum output_line names) (sum_of names.params sum.text) q e in
+    let i = interface_is interface.text names was in
+    let s = sum_is names.params sum.text b.at b.was in
     subst IsSumParagraph b.then_is (record {
       function = i.function;
       params = i.params;
@@ -219,7 +205,7 @@ paragraph_with_is interface sum output_line q h =
       words = s.words;
       few = s.few;
       terms = s.terms;
-    })
+    }))
 
 framed : (t : Bool) (o : Option Paragraph) (q : Paragraph) → (if t then o else None) ≡ Some q → o ≡ Some q
 framed true o q h = h
@@ -248,16 +234,11 @@ record IsSumDraft (d : Draft) : Type 0 where
   full_bytes : list_all (belongs Name) d.full ≡ true
   paragraph : IsSumParagraph d.paragraph
 
-identifier_bytes : (xs : List ℕ) → is_identifier xs ≡ true → list_all is_word_byte xs ≡ true
-identifier_bytes [] h = absurd cc
-identifier_bytes (b ∷ bs) h =
-    let p = both (begins_word b) (list_all is_word_byte bs) h in pair (is_word_byte b) (list_all is_word_byte bs) (word_first b p.0) p.1
-
 drafted : (part : Part) (q : Paragraph) → is_name_or_empty part.package ≡ true → IsSumParagraph q → IsSumDraft (draft_from part q)
 drafted part q p i =
     let name = perl_name part.prefix q.function in
     let package_is = package_bytes part.package p in
-    let free = both (is_identifier q.function) (not (is_reserved q.function)) i.function in
+    let free = and_parts (is_identifier q.function) (not (is_reserved q.function)) i.function in
     let bytes = perl_bytes part.prefix q.function (identifier_bytes q.function free.0) in
     record {
       tail = glue_tail part.package name;
@@ -278,7 +259,7 @@ draft_is module_line part d p h = by (body_paragraph part.body) refl h
 
 free_all : (line : ℕ) (names : List (List ℕ)) → list_all is_free names ≡ true → All (λ (p : Param). is_free p.name ≡ true) (map (param_at line) names)
 free_all line [] h = tt
-free_all line (n ∷ ns) h = let g = both (is_free n) (list_all is_free ns) h in (g.0, free_all line ns g.1)
+free_all line (n ∷ ns) h = let g = and_parts (is_free n) (list_all is_free ns) h in (g.0, free_all line ns g.1)
 
 names_again : (line : ℕ) (names : List (List ℕ)) → map (λ (p : Param). p.name) (map (param_at line) names) ≡ names
 names_again line [] = refl
@@ -333,7 +314,7 @@ module_gives_sums bytes s m split h =
     let f = faultless (first_fault name_fault [] c.at) (module_from s c.at) m c.then_is in
     let apart = names_apart [] c.at f.none in
     subst IsSumModule f.same (record {
-      boot = is_package s.module named.module_name;
+      boot = named.module_name;
       xsubs = all_are IsSumXsub c.at xsubs;
       names_differ = (are_apart [] (map (λ (x : Xsub). x.full) c.at) apart.0).differ;
       glues_differ = (are_apart [] (map (λ (x : Xsub). x.glue) c.at) apart.1).differ;

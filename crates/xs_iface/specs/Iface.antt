@@ -1,7 +1,7 @@
 -- The module that an XS file describes.
+use Rattle.std.specs.Option.{option_or, unwrap_or}
 use Rattle.std.specs.Prelude.{ℕ, ◌==◌, ◌-◌, ◌||◌, nat_le, List, [], ◌∷◌, ◌++◌, length, map, codes, Option, None, Some, Result, Ok, Err, if◌then◌else◌}
 use Rattle.xs_base.specs.declared.fault.Fault.{Fault}
-use Rattle.xs_base.specs.declared.place.FileOf.TheVariants.{Xs}
 use Rattle.xs_base.specs.Reading.{◌>>=◌}
 use Rattle.xs_iface.specs.declared.drafts.Draft.{Draft}
 use Rattle.xs_iface.specs.declared.drafts.TheConstants.{NOT_BUILT}
@@ -10,8 +10,11 @@ use Rattle.xs_iface.specs.declared.resolving.TheConstants.{MOST_PARAMS}
 use Rattle.xs_iface.specs.declared.xsub.Module.{Module}
 use Rattle.xs_iface.specs.declared.xsub.Param.{Param}
 use Rattle.xs_iface.specs.declared.xsub.Xsub.{Xsub}
-use Rattle.xs_iface.specs.Paragraph.{is_among, paragraph_of, term_of}
+use Rattle.xs_iface.specs.Paragraph.{paragraph_of, term_of}
+use Rattle.xs_base.specs.Names.{is_among}
 use Rattle.xs_base.specs.Scanning.{after_word}
+use Rattle.xs_sections.specs.Cut.{unless_fault}
+use Rattle.xs_sections.specs.Faults.{fault_at}
 use Rattle.xs_sections.specs.declared.sections.Part.{Part}
 use Rattle.xs_sections.specs.declared.sections.PartBody.{PartBody}
 use Rattle.xs_sections.specs.declared.sections.PartBody.TheVariants.{Para, Map}
@@ -19,13 +22,9 @@ use Rattle.xs_sections.specs.declared.sections.Sections.{Sections}
 
 -- ---- names
 
-abbrev pub or_else : List ℕ → Option (List ℕ) → List ℕ
-or_else name None = name
-or_else name (Some rest) = rest
-
 -- the name for Perl, which is the name in C without the prefix
 abbrev pub perl_name : List ℕ → List ℕ → List ℕ
-perl_name prefix function = or_else function (after_word prefix function)
+perl_name prefix function = unwrap_or (after_word prefix function) function
 
 -- a package name as a part of a C name: each `:` is written `_`
 abbrev pub underscored : List ℕ → List ℕ
@@ -46,22 +45,10 @@ abbrev pub collect : {A B : Type 0} → (A → Result B Fault) → List A → Re
 collect read [] = Ok []
 collect read (x ∷ xs) = read x >>= (λ y. collect read xs >>= (λ ys. Ok (y ∷ ys)))
 
-abbrev pub or_later : Option Fault → Option Fault → Option Fault
-or_later None later = later
-or_later (Some fault) later = Some fault
-
 -- the first fault in a list whose elements are each held against those before it
 abbrev pub first_fault : {A : Type 0} → (List A → A → Option Fault) → List A → List A → Option Fault
 first_fault fault before [] = None
-first_fault fault before (x ∷ xs) = or_later (fault before x) (first_fault fault (before ++ x ∷ []) xs)
-
--- a value in which no fault was found
-abbrev pub unless_fault : {A : Type 0} → Option Fault → A → Result A Fault
-unless_fault None value = Ok value
-unless_fault (Some fault) value = Err fault
-
-abbrev pub fault_at : ℕ → ℕ → List ℕ → Fault
-fault_at line code word = record { file = Xs; line = line; code = code; word = word }
+first_fault fault before (x ∷ xs) = option_or (fault before x) (first_fault fault (before ++ x ∷ []) xs)
 
 -- ---- parts
 

@@ -1,19 +1,22 @@
 -- The form of an XSUB that gives a sum: its six lines, and what they say.
-use Rattle.std.specs.List.{list_all, list_any}
-use Rattle.std.specs.Option.{option_map}
-use Rattle.std.specs.Prelude.{ℕ, zero, suc, ◌==◌, ◌&&◌, ◌||◌, not, nat_le, Bool, true, false, List, [], ◌∷◌, length, codes, Option, None, Some, option_and_then, if◌then◌else◌}
+use Rattle.std.specs.List.{list_all}
+use Rattle.std.specs.Option.{option_map, unwrap_or}
+use Rattle.std.specs.Prelude.{ℕ, zero, suc, ◌==◌, ◌&&◌, ◌||◌, not, nat_le, Bool, false, List, [], ◌∷◌, length, codes, Option, None, Some, is_some, option_and_then, if◌then◌else◌}
 use Rattle.std.specs.Str.{bytes_eq}
 use Rattle.xs_base.specs.declared.place.Line.{Line}
 use Rattle.xs_iface.specs.declared.paragraph.Interface.{Interface}
 use Rattle.xs_iface.specs.declared.paragraph.Paragraph.{Paragraph}
 use Rattle.xs_iface.specs.declared.paragraph.Sum.{Sum}
-use Rattle.xs_iface.specs.declared.scan.Class.TheVariants.{Blank, Word}
+use Rattle.xs_base.specs.declared.runs.ByteClass.TheVariants.{Blank, Word}
 use Rattle.xs_iface.specs.declared.terms.TheConstants.{INT_MAX, MOST_TERMS}
 use Rattle.xs_iface.specs.declared.xsub.Term.{Term}
 use Rattle.xs_iface.specs.declared.xsub.Term.TheVariants.{Literal, Parameter}
 use Rattle.xs_iface.specs.Words.{is_free}
+use Rattle.xs_base.specs.Names.{is_among}
+use Rattle.xs_base.specs.Readers.{head_is}
+use Rattle.xs_base.specs.Runs.{behind, behind_blanks, belongs, front_of}
 use Rattle.xs_base.specs.Scanning.{after_word, is_blank_line, is_digit, value_of_digits}
-use Rattle.xs_iface.specs.Scan.{Chain, behind, chain_of, front_of, is_nothing}
+use Rattle.xs_iface.specs.Scan.{Chain, chain_of}
 
 -- ---- terms
 
@@ -27,21 +30,9 @@ is_literal (d ∷ e ∷ es) = not (d == 48) && list_all is_digit (d ∷ e ∷ es
 abbrev pub literal_of : List ℕ → Option ℕ
 literal_of word = if is_literal word && nat_le (value_of_digits word) INT_MAX then Some (value_of_digits word) else None
 
--- whether a name is among others
-abbrev pub is_among : List (List ℕ) → List ℕ → Bool
-is_among names word = list_any (λ name. bytes_eq name word) names
-
-abbrev pub is_value : Option ℕ → Bool
-is_value None = false
-is_value (Some value) = true
-
 -- A term is the name of a parameter, or a literal.
 abbrev pub is_term : List (List ℕ) → List ℕ → Bool
-is_term params word = is_among params word || is_value (literal_of word)
-
-abbrev pub value_or_nought : Option ℕ → ℕ
-value_or_nought None = 0
-value_or_nought (Some value) = value
+is_term params word = is_among params word || is_some (literal_of word)
 
 -- the first place at which a name stands
 abbrev pub place_of : List (List ℕ) → List ℕ → ℕ
@@ -50,13 +41,13 @@ place_of (name ∷ names) word = if bytes_eq name word then zero else suc (place
 
 -- what a term says: the first parameter of that name, or else the literal
 abbrev pub term_of : List (List ℕ) → List ℕ → Term
-term_of params word = if is_among params word then Parameter (place_of params word) else Literal (value_or_nought (literal_of word))
+term_of params word = if is_among params word then Parameter (place_of params word) else Literal (unwrap_or (literal_of word) 0)
 
 -- ---- lines
 
 -- what stands behind the blanks in front of a line, of which there is one at least
 abbrev pub block_text : List ℕ → Option (List ℕ)
-block_text text = if is_nothing (front_of Blank text) then None else Some (behind Blank text)
+block_text text = if head_is (belongs Blank) text then Some (behind_blanks text) else None
 
 abbrev pub is_word_alone : List ℕ → Option (List ℕ) → Bool
 is_word_alone word None = false
@@ -118,10 +109,6 @@ paragraph_of (kind ∷ interface ∷ code ∷ sum ∷ output ∷ retval ∷ more
     if is_frame kind.text code.text output.text retval.text more then paragraph_with interface sum retval.number else None
 paragraph_of _ = None
 
-abbrev pub is_some_paragraph : Option Paragraph → Bool
-is_some_paragraph None = false
-is_some_paragraph (Some paragraph) = true
-
 -- whether lines are a paragraph of the form
 abbrev pub is_sum_paragraph : List Line → Bool
-is_sum_paragraph lines = is_some_paragraph (paragraph_of lines)
+is_sum_paragraph lines = is_some (paragraph_of lines)

@@ -3,12 +3,13 @@ use Rattle.std.specs.List.{list_all, list_any}
 use Rattle.std.specs.Prelude.{◌≡◌, ℕ, ◌<◌, ◌≤◌, true, false, List, [], ◌∷◌, ◌++◌, map, length, codes}
 use Rattle.std.specs.Str.{bytes_eq}
 use Rattle.xs_iface.specs.declared.terms.TheConstants.{INT_MAX}
-use Rattle.xs_iface.specs.declared.scan.Class.TheVariants.{Blank, Name, Word}
+use Rattle.xs_base.specs.declared.runs.ByteClass.TheVariants.{Blank, Name, Word}
 use Rattle.xs_iface.specs.declared.xsub.Module.{Module}
 use Rattle.xs_iface.specs.declared.xsub.Term.{Term}
 use Rattle.xs_iface.specs.declared.xsub.Term.TheVariants.{Literal, Parameter}
 use Rattle.xs_iface.specs.declared.xsub.Xsub.{Xsub}
-use Rattle.xs_iface.specs.Scan.{belongs, is_package_name}
+use Rattle.xs_base.specs.Names.{is_qualified_name}
+use Rattle.xs_base.specs.Runs.{belongs}
 use Rattle.xs_iface.specs.Words.{is_free}
 
 -- each element has the property
@@ -45,7 +46,7 @@ pub record IsSumXsub (x : Xsub) : Type 0 where
 
 -- A module of such XSUBs, which differ in their names for Perl and in the names of their glue functions.
 pub record IsSumModule (m : Module) : Type 0 where
-  pub boot : is_package_name m.boot ≡ true
+  pub boot : is_qualified_name m.boot ≡ true
   pub xsubs : All IsSumXsub m.xsubs
   pub names_differ : Differ (map (λ x. x.full) m.xsubs)
   pub glues_differ : Differ (map (λ x. x.glue) m.xsubs)

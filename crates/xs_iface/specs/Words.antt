@@ -1,13 +1,16 @@
 -- Words that are taken.
-use Rattle.std.specs.List.{list_any}
-use Rattle.std.specs.Prelude.{ℕ, ◌&&◌, not, Bool, List}
-use Rattle.std.specs.Str.{bytes_eq}
-use Rattle.xs_iface.specs.declared.words.TheConstants.{RESERVED}
+use Rattle.std.specs.Prelude.{ℕ, ◌&&◌, not, Bool, List, map}
+use Rattle.xs_base.specs.Names.{is_among}
 use Rattle.xs_base.specs.Scanning.{is_identifier}
+use Rattle.xs_iface.specs.declared.words.TheConstants.{RESERVED}
+
+-- the reserved words
+unfoldable pub reserved_words : List (List ℕ)
+reserved_words = map (λ word. word.now) RESERVED
 
 -- a reserved word
-unfoldable pub is_reserved : List ℕ → Bool
-is_reserved word = list_any (λ listed. bytes_eq listed.now word) RESERVED
+abbrev pub is_reserved : List ℕ → Bool
+is_reserved word = is_among reserved_words word
 
 -- a word that may name a parameter or a function
 abbrev pub is_free : List ℕ → Bool

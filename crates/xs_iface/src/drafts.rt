@@ -1,13 +1,13 @@
 //! Paragraphs of the form, with the names of their functions.
-ghost use Rattle.std.specs.Prelude.{◌≡◌, [], IfOk};
+ghost use Rattle.std.specs.Prelude.{◌≡◌, IfOk};
 ghost use Rattle.xs_base.specs.Reading.{Gives};
-ghost use Rattle.xs_iface.specs.Iface.{body_paragraph, collect, draft_from, draft_of, fault_at, part_line};
+ghost use Rattle.xs_iface.specs.Iface.{body_paragraph, collect, draft_from, draft_of, part_line};
 
 use crate::paragraph::{Paragraph, read_paragraph};
 use crate::spelling::{full_name, glue_name, perl_name};
 use std::alloc::Global;
-use xs_base::{Bytes, Fault, FileOf, Items, Memory, Refuse};
-use xs_sections::{Part, PartBody};
+use xs_base::{Bytes, Items, Memory, Refuse};
+use xs_sections::{Part, PartBody, fault_at};
 
 /// The number of a refusal of a form that is not built yet.
 pub const NOT_BUILT: u16 = 999;
@@ -20,18 +20,6 @@ pub struct Draft {
     /// The name of the glue function.
     pub glue: Bytes,
     pub paragraph: Paragraph,
-}
-
-/// A fault of the XS file.
-pub fn fault_at(line: u32, code: u16, word: Bytes) -> Fault
-    ensures { result ≡ fault_at line code word }
-{
-    Fault {
-        file: FileOf::Xs,
-        line,
-        code,
-        word,
-    }
 }
 
 /// The line at which a part that is not of the form is refused: its first, or that of the last MODULE line where it has none. A typemap

@@ -5,11 +5,14 @@ ghost use Rattle.xs_base.specs.Scanning.{is_blank_line};
 ghost use Rattle.xs_iface.specs.Paragraph.{block_text, interface_of, is_block_line, is_frame, is_sum_paragraph, paragraph_of, paragraph_with, sum_of};
 ghost use Rattle.xs_iface.specs.Words.{is_free};
 
-use crate::scan::{Class, cut_run, read_chain};
+use crate::scan::read_chain;
 use crate::terms::{MOST_TERMS, are_terms};
 use crate::words::{is_free, is_same};
 use std::alloc::Global;
-use xs_base::{Bytes, Items, Line, Memory, after_word, is_blank_line};
+use xs_base::{
+    ByteClass, Bytes, Items, Line, Memory, after_word, begins_with_class, behind_blanks, cut_run,
+    is_blank_line,
+};
 
 /// What an interface line says.
 #[derive(Debug, Drop)]
@@ -46,8 +49,11 @@ pub struct Paragraph {
 fn block_text(text: &[u8]) -> Option<&[u8]>
     ensures { MatchOption result (block_text text.now ≡ None) (λ rest. block_text text.now ≡ Some rest.now) }
 {
-    let (blanks, rest) = cut_run(Class::Blank, text);
-    if blanks.is_empty() { None } else { Some(rest) }
+    if begins_with_class(ByteClass::Blank, text) {
+        Some(behind_blanks(text))
+    } else {
+        None
+    }
 }
 
 // Whether a line is blanks, one at least, and a word.
@@ -71,7 +77,7 @@ fn are_free(names: &[Bytes]) -> bool
 fn read_interface(alloc: Global, text: &[u8]) -> Result<Option<Interface>, Memory>
     ensures { IfOk result (λ names. names ≡ interface_of text.now) }
 {
-    let (function, rest) = cut_run(Class::Word, text);
+    let (function, rest) = cut_run(ByteClass::Word, text);
     let Some(list) = after_word(b"(int ", rest) else {
         return Ok(None);
     };
@@ -90,7 +96,7 @@ fn read_interface(alloc: Global, text: &[u8]) -> Result<Option<Interface>, Memor
 fn read_sum(alloc: Global, params: &[Bytes], text: &[u8]) -> Result<Option<Sum>, Memory>
     ensures { IfOk result (λ sum. sum ≡ sum_of params.now text.now) }
 {
-    let (indent, _rest) = cut_run(Class::Blank, text);
+    let (indent, _rest) = cut_run(ByteClass::Blank, text);
     let Some(right) = block_text(text) else {
         return Ok(None);
     };

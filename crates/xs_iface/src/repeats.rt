@@ -1,14 +1,15 @@
 //! Names that stand twice.
 ghost use Rattle.std.specs.Prelude.{◌≡◌, [], ◌∷◌, ◌++◌, IfOk, not, if◌then◌else◌};
-ghost use Rattle.xs_iface.specs.Iface.{fault_at, first_fault, name_fault};
-ghost use Rattle.xs_iface.specs.Paragraph.{is_among};
+ghost use Rattle.xs_base.specs.Names.{is_among};
+ghost use Rattle.xs_iface.specs.Iface.{first_fault, name_fault};
 ghost use Rattle.xs_iface.specs.Repeats.{names_of};
+ghost use Rattle.xs_sections.specs.Faults.{fault_at};
 
-use crate::drafts::fault_at;
 use crate::xsub::Xsub;
 use indexmap::IndexSet;
 use std::alloc::Global;
 use xs_base::{Fault, Memory};
+use xs_sections::fault_at;
 
 // Notes a name, and says whether it is a new one.
 fn note_name<'a>(names: &mut IndexSet<&'a [u8]>, name: &'a [u8]) -> Result<bool, Memory>

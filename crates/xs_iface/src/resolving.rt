@@ -3,12 +3,13 @@ ghost use Rattle.std.specs.Prelude.{◌≡◌, IfOk, map};
 ghost use Rattle.xs_base.specs.Reading.{Gives};
 ghost use Rattle.xs_iface.specs.Iface.{collect, interface_fault, param_at, param_fault, xsub_of};
 
-use crate::drafts::{Draft, fault_at};
+use crate::drafts::Draft;
 use crate::paragraph::Paragraph;
 use crate::terms::{is_among, read_terms};
 use crate::xsub::{Param, Xsub};
 use std::alloc::Global;
 use xs_base::{Bytes, Fault, Items, Memory, Refuse};
+use xs_sections::fault_at;
 
 /// How many parameters an XSUB may have.
 pub const MOST_PARAMS: usize = 64;

@@ -9,10 +9,7 @@ use xs_base::{Bytes, Memory, after_word};
 pub fn perl_name<'a>(prefix: &[u8], function: &'a [u8]) -> &'a [u8]
     ensures { result.now ≡ perl_name prefix.now function.now }
 {
-    match after_word(prefix, function) {
-        Some(rest) => rest,
-        None => function,
-    }
+    after_word(prefix, function).unwrap_or(function)
 }
 
 /// A package name as a part of a C name: each `:` is written `_`.

@@ -1,12 +1,13 @@
 //! The terms of a sum.
 ghost use Rattle.std.specs.List.{list_all};
 ghost use Rattle.std.specs.Prelude.{◌≡◌, ◌≤◌, IfOk, None, Some, length, map};
-ghost use Rattle.xs_iface.specs.Paragraph.{is_among, is_literal, is_term, literal_of, place_of, term_of};
+ghost use Rattle.xs_base.specs.Names.{is_among};
+ghost use Rattle.xs_iface.specs.Paragraph.{is_literal, is_term, literal_of, place_of, term_of};
 
 use crate::words::is_same;
 use crate::xsub::Term;
 use std::alloc::Global;
-use xs_base::{Bytes, Items, Memory, are_digits, digits_value, is_digit};
+use xs_base::{ByteClass, Bytes, Items, Memory, are_all, digits_value, is_digit};
 
 /// The greatest `int`.
 pub const INT_MAX: u64 = 2_147_483_647;
@@ -34,7 +35,7 @@ fn is_literal(word: &[u8]) -> bool
     match word {
         [] => false,
         [digit] => is_digit(*digit),
-        [first, ..] => *first != b'0' && are_digits(word),
+        [first, ..] => *first != b'0' && are_all(ByteClass::Digit, word),
     }
 }
 
@@ -82,10 +83,7 @@ fn read_term(params: &[Bytes], word: &[u8]) -> Term
     if is_among(params, word) {
         return Term::Parameter(place_of(params, word));
     }
-    match read_literal(word) {
-        Some(value) => Term::Literal(value),
-        None => Term::Literal(0),
-    }
+    Term::Literal(read_literal(word).unwrap_or(0))
 }
 
 /// What the terms say.

@@ -6,40 +6,23 @@ use std::test::Fail;
 use xs_base::{Bytes, Memory, Refuse};
 use xs_sections::{Sections, split};
 
-fn add_number(alloc: Global, out: &mut Bytes, n: u32) -> Result<(), Memory> {
-    let text = format!(in alloc; "{n}")?;
-    out.append(text.as_str().as_bytes())
-}
-
 fn add_term(alloc: Global, out: &mut Bytes, term: Term) -> Result<(), Memory> {
     match term {
-        Term::Parameter(place) => {
-            out.append(b" $")?;
-            add_number(alloc, out, place)
-        }
-        Term::Literal(value) => {
-            out.append(b" ")?;
-            add_number(alloc, out, value)
-        }
+        Term::Parameter(place) => out.append(format!(in alloc; " ${place}")?.as_str().as_bytes()),
+        Term::Literal(value) => out.append(format!(in alloc; " {value}")?.as_str().as_bytes()),
     }
 }
 
 fn add_param(alloc: Global, out: &mut Bytes, param: &Param) -> Result<(), Memory> {
     out.append(b" ")?;
     out.append(param.name.as_slice())?;
-    out.append(b"@")?;
-    add_number(alloc, out, param.line)
+    out.append(format!(in alloc; "@{}", param.line)?.as_str().as_bytes())
 }
 
 // The lines and names of an XSUB, its parameters, and its terms.
 fn add_xsub(alloc: Global, out: &mut Bytes, x: &Xsub) -> Result<(), Memory> {
-    out.append(b"X ")?;
-    add_number(alloc, out, x.line)?;
-    out.append(b" ")?;
-    add_number(alloc, out, x.code_line)?;
-    out.append(b" ")?;
-    add_number(alloc, out, x.output_line)?;
-    out.append(b" '")?;
+    let lines = format!(in alloc; "X {} {} {} '", x.line, x.code_line, x.output_line)?;
+    out.append(lines.as_str().as_bytes())?;
     out.append(x.full.as_slice())?;
     out.append(b"' ")?;
     out.append(x.c_name.as_slice())?;
@@ -57,13 +40,9 @@ fn add_xsub(alloc: Global, out: &mut Bytes, x: &Xsub) -> Result<(), Memory> {
 
 fn add_module(alloc: Global, out: &mut Bytes, m: &Module) -> Result<(), Memory> {
     out.append(m.boot.as_slice())?;
-    out.append(b" ")?;
-    add_number(alloc, out, m.boot_line)?;
-    out.append(b"\n")?;
+    out.append(format!(in alloc; " {}\n", m.boot_line)?.as_str().as_bytes())?;
     for line in m.c_part.as_slice() {
-        out.append(b"C ")?;
-        add_number(alloc, out, line.number)?;
-        out.append(b" ")?;
+        out.append(format!(in alloc; "C {} ", line.number)?.as_str().as_bytes())?;
         out.append(line.text.as_slice())?;
         out.append(b"\n")?;
     }
@@ -83,11 +62,11 @@ fn add_answer(
         Ok(m) => add_module(alloc, out, &m),
         Err(Refuse::Memory) => Err(Memory),
         Err(Refuse::Fault(f)) => {
-            out.append(b"F ")?;
-            add_number(alloc, out, f.line)?;
-            out.append(b" ")?;
-            add_number(alloc, out, f.code as u32)?;
-            out.append(b" ")?;
+            out.append(
+                format!(in alloc; "F {} {} ", f.line, f.code)?
+                    .as_str()
+                    .as_bytes(),
+            )?;
             out.append(f.word.as_slice())
         }
     }
@@ -214,9 +193,7 @@ fn large(alloc: Global, params: u32, last: &[u8], terms: u32) -> Result<Bytes, M
     let mut src = Bytes::from_slice(alloc, b"MODULE = M\n")?;
     let mut interface = Bytes::from_slice(alloc, b"f(")?;
     for at in 0..params {
-        interface.append(b"int p")?;
-        add_number(alloc, &mut interface, at)?;
-        interface.append(b", ")?;
+        interface.append(format!(in alloc; "int p{at}, ")?.as_str().as_bytes())?;
     }
     interface.append(b"int ")?;
     interface.append(last)?;

@@ -1,10 +1,9 @@
 //! Words that are taken.
-ghost use Rattle.std.specs.List.{list_any};
 ghost use Rattle.std.specs.Prelude.{◌≡◌};
 ghost use Rattle.std.specs.Str.{bytes_eq};
 ghost use Rattle.xs_iface.specs.Words.{is_free, is_reserved};
 
-use xs_base::is_identifier;
+use xs_base::{is_among, is_identifier};
 
 /// The words that name no parameter and no function in this form: the words of the C subset, the
 /// functions of Perl's API that it knows, and the names that glue code declares itself.
@@ -179,13 +178,6 @@ pub const RESERVED: [&str; 168] = [
     "while",
 ];
 
-// Whether a word is listed.
-fn is_among(words: &[&str], word: &[u8]) -> bool
-    ensures { result ≡ list_any (λ listed. bytes_eq listed.now word.now) words.now }
-{
-    words.iter().any(|listed| is_same(listed.as_bytes(), word))
-}
-
 /// Whether two texts are the same bytes.
 pub fn is_same(a: &[u8], b: &[u8]) -> bool
     ensures { result ≡ bytes_eq a.now b.now }
@@ -194,7 +186,7 @@ pub fn is_same(a: &[u8], b: &[u8]) -> bool
 }
 
 // Whether a word is reserved.
-#[tactic(auto, unfolding(crate::specs::Words::is_reserved))]
+#[tactic(auto, unfolding(crate::specs::Words::reserved_words))]
 fn is_reserved(word: &[u8]) -> bool
     ensures { result ≡ is_reserved word.now }
 {

@@ -7,16 +7,17 @@ use Rattle.xs_values.specs.Numbers.{Number, calculated}
 use Rattle.xs_values.specs.declared.operator.Op.{Op}
 use Rattle.xs_values.specs.declared.trap.Trap.{Trap}
 use Rattle.xs_values.specs.declared.trap.Trap.TheVariants as trap
-use Rattle.xs_machine.specs.declared.api.Abrupt.{Abrupt}
-use Rattle.xs_machine.specs.declared.api.Abrupt.TheVariants.{Returns, Croaks, Traps, Spent}
-use Rattle.xs_machine.specs.declared.api.Operand.{Operand}
-use Rattle.xs_machine.specs.declared.api.Operand.TheVariants.{Unset, Num, Scalar, Void}
-use Rattle.xs_machine.specs.declared.stacks.Depths.{Depths}
+use Rattle.xs_api.specs.declared.api.Abrupt.{Abrupt}
+use Rattle.xs_api.specs.declared.api.Abrupt.TheVariants.{Returns, Croaks, Traps, Spent}
+use Rattle.xs_api.specs.declared.api.Operand.{Operand}
+use Rattle.xs_api.specs.declared.api.Operand.TheVariants.{Unset, Num, Scalar, Void}
+use Rattle.xs_api.specs.declared.stacks.Depths.{Depths}
 use Rattle.xs_ccheck.specs.Functions.{function_at}
 use Rattle.xs_ccheck.specs.Tree.{XsEnd, Tree, Literal, Variable, ItemCount, Assign, Binary, Convert, ApiRow, Block, If, Forget, Declare, NoTrees, MoreTrees, tree_count, Function, Code}
-use Rattle.xs_machine.specs.World.{World, Swept, Clean, Dirty, depths_of}
-use Rattle.xs_machine.specs.State.{State, Out, Done, Stop, Prims, Effect, Gives, Ends, tick, lift, read_value, assigned, write_var, assign_as, given, calculate, item_count, operate, convert, truth_of}
-use Rattle.xs_machine.specs.Rows.{counted_rows, most_items}
+use Rattle.xs_api.specs.World.{World, Swept, Clean, Dirty, depths_of}
+use Rattle.xs_api.specs.Effects.{Prims, Effect, Gives, Ends}
+use Rattle.xs_machine.specs.State.{State, Out, Done, Stop, tick, lift, read_value, assigned, write_var, assign_as, given, calculate, item_count, operate, convert, truth_of}
+use Rattle.xs_api.specs.Rows.{counted_rows, most_items}
 use Rattle.xs_machine.specs.Cmean.{meaning}
 use Rattle.xs_machine.specs.Machine.{Work, DoTree, DoTrees, DoBlock, SetVar, Operate, ConvertTop, DoRow, Branch, ForgetTop, DropTop, Enter, Leave, Mach, taken, undefined_text, run_on, halt, on_top, unwind, at_leave, swept_to, land, fall_off, branch_on, entered, enter, act_tree, act, step_at, step, steps, tree_size, all_size, entry_size, left, run, call_meaning, call_over, is_over, begun_with, begun_state}
 use Rattle.xs_machine.specs.declared.machine.Outcome.TheVariants as outcome

@@ -1,10 +1,11 @@
 -- The machine follows the meaning: an induction on the tree.
 use Rattle.std.proofs.Common.{◌≡◌, ℕ, suc, ◌+◌, Bool, true, false, List, [], ◌∷◌, ◌++◌, length, refl, ap, ◌∙◌, arith, append-nil, Option, Some, None}
-use Rattle.xs_machine.specs.declared.api.Abrupt.{Abrupt}
-use Rattle.xs_machine.specs.declared.api.Operand.{Operand}
-use Rattle.xs_machine.specs.declared.api.Operand.TheVariants.{Void}
+use Rattle.xs_api.specs.declared.api.Abrupt.{Abrupt}
+use Rattle.xs_api.specs.declared.api.Operand.{Operand}
+use Rattle.xs_api.specs.declared.api.Operand.TheVariants.{Void}
 use Rattle.xs_ccheck.specs.Tree.{Tree, Literal, Variable, ItemCount, Assign, Binary, Convert, ApiRow, Block, If, Forget, Declare, Trees, NoTrees, MoreTrees, tree_count, Code}
-use Rattle.xs_machine.specs.State.{State, Out, Done, Stop, Prims, ◌>>=◌, lift, assigned, assign_as, operate, convert, truth_of}
+use Rattle.xs_api.specs.Effects.{Prims}
+use Rattle.xs_machine.specs.State.{State, Out, Done, Stop, ◌>>=◌, lift, assigned, assign_as, operate, convert, truth_of}
 use Rattle.xs_machine.specs.Cmean.{choose, meaning, meanings, meaning_all}
 use Rattle.xs_machine.specs.Machine.{Work, DoTree, DoTrees, DoBlock, SetVar, Operate, ConvertTop, DoRow, Branch, ForgetTop, DropTop, Mach, taken, run_on, unwind, land, branch_on, step, steps}
 use Rattle.xs_machine.specs.Law.{MachineFollows}

@@ -1,5 +1,3 @@
 pub mod Follows
 pub mod Ends
-pub mod Cells
 pub mod Tops
-pub mod Temps

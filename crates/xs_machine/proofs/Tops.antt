@@ -1,22 +1,9 @@
 -- A vector as a stack, whose top is its last element.
 use Rattle.std.proofs.Common.{◌≡◌, ℕ, zero, suc, ◌+◌, ◌-◌, List, [], ◌∷◌, ◌++◌, length, take, drop, reverse, refl, sym, ap, ◌∙◌, ⊎_elim, arith, append-nil, append_assoc, length-drop}
 use Rattle.std.proofs.lemmas.Bool.{cases_lt}
-use Rattle.xs_machine.specs.declared.api.Operand.{Operand}
+use Rattle.xs_api.specs.declared.api.Operand.{Operand}
 use Rattle.xs_machine.specs.Machine.{taken}
 use Rattle.std.proofs.lemmas.List.{reverse-append, reverse-reverse, length-reverse, take-append-drop}
-
-drop-front : {T : Type 0} (a b : List T) → drop (length a) (a ++ b) ≡ b
-drop-front [] b = refl
-drop-front (x ∷ a) b = drop-front a b
-
--- the lowest items
-pub cut-reverse : {T : Type 0} (xs : List T) (h : ℕ) → reverse (take h xs) ≡ drop (length (reverse xs) - h) (reverse xs)
-cut-reverse xs h =
-    let low = reverse (take h xs) in
-    let top = reverse (drop h xs) in
-    let whole : reverse xs ≡ top ++ low = ap reverse (sym (take-append-drop h xs)) ∙ reverse-append (take h xs) (drop h xs) in
-    let high : length (reverse xs) - h ≡ length top = omega (arith, length-reverse xs, length-reverse (drop h xs), length-drop h xs) in
-    sym (ap (λ n. drop n (reverse xs)) high ∙ ap (drop (length top)) whole ∙ drop-front top low)
 
 -- more operands than there are
 taken_nil : (n : ℕ) (acc : List Operand) → taken n acc [] ≡ (acc, [])

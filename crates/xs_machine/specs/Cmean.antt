@@ -1,11 +1,12 @@
 -- What a tree means, without the machine.
 use Rattle.std.specs.Prelude.{Bool, true, false, List, [], ◌∷◌, Option, Some, None}
 use Rattle.xs_values.specs.declared.trap.Trap.TheVariants as trap
-use Rattle.xs_machine.specs.declared.api.Abrupt.TheVariants.{Traps}
-use Rattle.xs_machine.specs.declared.api.Operand.{Operand}
-use Rattle.xs_machine.specs.declared.api.Operand.TheVariants.{Unset, Num, Void}
+use Rattle.xs_api.specs.declared.api.Abrupt.TheVariants.{Traps}
+use Rattle.xs_api.specs.declared.api.Operand.{Operand}
+use Rattle.xs_api.specs.declared.api.Operand.TheVariants.{Unset, Num, Void}
 use Rattle.xs_ccheck.specs.Tree.{Tree, Literal, Variable, ItemCount, Assign, Binary, Convert, ApiRow, Block, If, Forget, Declare, Trees, NoTrees, MoreTrees}
-use Rattle.xs_machine.specs.State.{State, Out, Done, Stop, Prims, ◌>>=◌, lift, read_var, write_var, assigned, assign_as, item_count, operate, convert, truth_of}
+use Rattle.xs_api.specs.Effects.{Prims}
+use Rattle.xs_machine.specs.State.{State, Out, Done, Stop, ◌>>=◌, lift, read_var, write_var, assigned, assign_as, item_count, operate, convert, truth_of}
 
 -- one of two runs, by a condition
 abbrev pub choose : {S A : Type 0} → Option Bool → State S → Out S A → Out S A → Out S A

@@ -1,14 +1,15 @@
 -- The laws: the machine does what the trees mean.
 use Rattle.std.specs.Prelude.{◌≡◌, ℕ, cond, nat_lt, List, [], ◌∷◌, ◌+◌, length, Option}
 use Rattle.xs_values.specs.declared.trap.Trap.TheVariants as trap
-use Rattle.xs_machine.specs.declared.api.Operand.{Operand}
+use Rattle.xs_api.specs.declared.api.Operand.{Operand}
 use Rattle.xs_machine.specs.declared.machine.Outcome.TheVariants as outcome
 use Rattle.xs_ccheck.specs.Functions.{function_at}
 use Rattle.xs_ccheck.specs.Tree.{Tree, Code}
-use Rattle.xs_machine.specs.World.{World, depths_of}
-use Rattle.xs_machine.specs.State.{State, Prims}
+use Rattle.xs_api.specs.World.{World, depths_of}
+use Rattle.xs_api.specs.Effects.{Prims}
+use Rattle.xs_machine.specs.State.{State}
 use Rattle.xs_machine.specs.Cmean.{meaning}
-use Rattle.xs_machine.specs.Rows.{counted_rows, most_items}
+use Rattle.xs_api.specs.Rows.{counted_rows, most_items}
 use Rattle.xs_machine.specs.Machine.{Work, DoTree, Mach, run_on, halt, land, steps, run, begun_at, begun_state, is_over, call_meaning, call_over}
 
 -- From a tree with any work behind it the machine comes to where the meaning says.

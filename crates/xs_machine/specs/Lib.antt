@@ -1,8 +1,4 @@
-pub mod World
 pub mod State
-pub mod Heaps
-pub mod Rows
-pub mod Places
 pub mod Cmean
 pub mod Machine
 pub mod Law

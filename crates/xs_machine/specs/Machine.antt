@@ -3,19 +3,20 @@ use Rattle.std.specs.Prelude.{ℕ, zero, suc, ◌+◌, ◌*◌, max, Bool, true,
 use Rattle.xs_values.specs.declared.kind.Kind.{Kind}
 use Rattle.xs_values.specs.declared.operator.Op.{Op}
 use Rattle.xs_values.specs.declared.trap.Trap.TheVariants as trap
-use Rattle.xs_machine.specs.declared.api.Abrupt.{Abrupt}
-use Rattle.xs_machine.specs.declared.api.Abrupt.TheVariants.{Returns, Croaks, Traps, Spent}
-use Rattle.xs_machine.specs.declared.api.Operand.{Operand}
-use Rattle.xs_machine.specs.declared.api.Operand.TheVariants.{Unset, Num, Void}
+use Rattle.xs_api.specs.declared.api.Abrupt.{Abrupt}
+use Rattle.xs_api.specs.declared.api.Abrupt.TheVariants.{Returns, Croaks, Traps, Spent}
+use Rattle.xs_api.specs.declared.api.Operand.{Operand}
+use Rattle.xs_api.specs.declared.api.Operand.TheVariants.{Unset, Num, Void}
 use Rattle.xs_ccheck.specs.declared.code.ValueType.{ValueType}
 use Rattle.xs_machine.specs.declared.machine.Outcome.{Outcome}
 use Rattle.xs_machine.specs.declared.machine.Outcome.TheVariants as outcome
-use Rattle.xs_machine.specs.declared.stacks.Depths.{Depths}
+use Rattle.xs_api.specs.declared.stacks.Depths.{Depths}
 use Rattle.xs_ccheck.specs.Functions.{function_at, boot_at, name_of}
 use Rattle.xs_ccheck.specs.Tree.{Row, XsEnd, Tree, Literal, Variable, ItemCount, Assign, Binary, Convert, ApiRow, Block, If, Forget, Declare, Trees, NoTrees, MoreTrees, tree_count, Function, Code}
-use Rattle.xs_machine.specs.World.{World, Swept, Clean, Dirty, depths_of, new_cells, registered, sweep}
-use Rattle.xs_machine.specs.State.{State, Out, Done, Stop, Prims, tick, lift, with_store, read_var, write_var, assigned, assign_as, item_count, operate, convert, truth_of}
-use Rattle.xs_machine.specs.Rows.{counted_rows, most_items}
+use Rattle.xs_api.specs.World.{World, Swept, Clean, Dirty, depths_of, new_cells, registered, sweep}
+use Rattle.xs_api.specs.Effects.{Prims}
+use Rattle.xs_machine.specs.State.{State, Out, Done, Stop, tick, lift, with_store, read_var, write_var, assigned, assign_as, item_count, operate, convert, truth_of}
+use Rattle.xs_api.specs.Rows.{counted_rows, most_items}
 use Rattle.xs_machine.specs.Cmean.{meaning}
 
 -- A piece of pending work: a tree; operands; statements; what is done with the topmost operands; one of two trees; the entry of a

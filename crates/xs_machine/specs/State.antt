@@ -7,16 +7,14 @@ use Rattle.xs_values.specs.declared.trap.Trap.{Trap}
 use Rattle.xs_values.specs.declared.trap.Trap.TheVariants as trap
 use Rattle.xs_values.specs.Numbers.{Number, calculated, wrapped}
 use Rattle.std.specs.Prelude.{Result, Ok, Err}
-use Rattle.xs_machine.specs.declared.api.Abrupt.{Abrupt}
-use Rattle.xs_machine.specs.declared.api.Abrupt.TheVariants.{Traps}
-use Rattle.xs_machine.specs.declared.api.Frame.{Frame}
-use Rattle.xs_machine.specs.declared.api.Operand.{Operand}
-use Rattle.xs_machine.specs.declared.api.Operand.TheVariants.{Unset, Num, Scalar, Void}
+use Rattle.xs_api.specs.declared.api.Abrupt.{Abrupt}
+use Rattle.xs_api.specs.declared.api.Abrupt.TheVariants.{Traps}
+use Rattle.xs_api.specs.declared.api.Frame.{Frame}
+use Rattle.xs_api.specs.declared.api.Operand.{Operand}
+use Rattle.xs_api.specs.declared.api.Operand.TheVariants.{Unset, Num, Scalar, Void}
 use Rattle.xs_ccheck.specs.declared.code.ValueType.{ValueType}
 use Rattle.xs_ccheck.specs.declared.code.ValueType.TheVariants as type_of
-use Rattle.xs_machine.specs.declared.stacks.Depths.{Depths}
-use Rattle.xs_ccheck.specs.Tree.{Row}
-use Rattle.xs_machine.specs.World.{Swept}
+use Rattle.xs_api.specs.Effects.{Effect, Gives, Ends}
 
 -- the variables of the present function by their slots, what it knows of its call, what the rows work on, and the turns that are left
 pub record State (S : Type 0) : Type 0 where
@@ -29,16 +27,6 @@ pub record State (S : Type 0) : Type 0 where
 pub data Out (S A : Type 0) : Type 0 where
   Done : A → State S → Out S A
   Stop : Abrupt → State S → Out S A
-
--- what a row does: it gives a value, or ends what is run
-pub data Effect (S : Type 0) : Type 0 where
-  Gives : Operand → Frame → S → Effect S
-  Ends : Abrupt → Frame → S → Effect S
-
--- The rows: what each does, and what cuts the stacks where a croak is caught.
-pub record Prims (S : Type 0) : Type 0 where
-  pub row : Row → List Operand → Frame → S → Effect S
-  pub cut : Depths → S → Swept S
 
 -- one turn, where one is left
 abbrev pub tick : {X : Type 0} → ℕ → X → (ℕ → X) → X

@@ -1,11 +1,7 @@
 -- The machine of the program, seen as the machine of the definitions.
 use Rattle.std.specs.Prelude.{◌≡◌, ℕ, List, [], map, reverse, Some, Result, Ok, Err}
 use Rattle.xs_values.specs.declared.trap.Trap.{Trap}
-use Rattle.xs_machine.specs.declared.api.Halt.{Halt}
-use Rattle.xs_machine.specs.declared.api.Halt.TheVariants.{Way, Memory}
-use Rattle.xs_machine.specs.declared.api.Frame.{Frame}
-use Rattle.xs_machine.specs.declared.api.Operand.{Operand}
-use Rattle.xs_machine.specs.declared.api.Perl.{Perl}
+use Rattle.xs_api.specs.declared.api.Operand.{Operand}
 use Rattle.xs_ccheck.specs.declared.code.Typed.{Typed}
 use Rattle.xs_machine.specs.declared.machine.Machine.{Machine}
 use Rattle.xs_machine.specs.declared.machine.Outcome.TheVariants as outcome
@@ -14,29 +10,19 @@ use Rattle.xs_machine.specs.declared.machine.Task.TheVariants as task
 use Rattle.xs_ccheck.specs.Arena.{row_of, tree_at, trees_at}
 use Rattle.xs_ccheck.specs.Functions.{code_of}
 use Rattle.xs_machine.specs.Machine.{Mach, Work, DoTree, DoTrees, DoBlock, SetVar, Operate, ConvertTop, DoRow, Branch, ForgetTop, DropTop, Enter, Leave}
-use Rattle.xs_machine.specs.State.{Effect, Gives, Ends, Out, Done, State, operate, with_store}
+use Rattle.xs_api.specs.Effects.{Gives, Ends}
+use Rattle.xs_machine.specs.State.{Out, Done, State, operate, with_store}
 use Rattle.xs_machine.specs.State as state
-use Rattle.xs_machine.specs.Rows.{new_mortal}
-use Rattle.xs_machine.specs.declared.api.Operand.TheVariants.{Scalar}
-use Rattle.xs_machine.specs.declared.api.Stop.{Stop}
-use Rattle.xs_machine.specs.declared.api.Stop.TheVariants as stop
+use Rattle.xs_api.specs.Rows.{new_mortal}
+use Rattle.xs_api.specs.declared.api.Operand.TheVariants.{Scalar}
+use Rattle.xs_api.specs.declared.api.Stop.{Stop}
+use Rattle.xs_api.specs.declared.api.Stop.TheVariants as stop
 use Rattle.xs_values.specs.declared.plain.Plain.{Plain}
-use Rattle.xs_machine.specs.declared.api.Abrupt.TheVariants.{Traps}
+use Rattle.xs_api.specs.declared.api.Abrupt.TheVariants.{Traps}
 use Rattle.xs_values.specs.declared.operator.Op.{Op}
 use Rattle.xs_ccheck.specs.Tree.{Code}
-use Rattle.xs_machine.specs.World.{Swept, Clean, Dirty, World}
-
-abbrev pub world_of : Perl → World
-world_of p =
-    record {
-      cells = p.heap;
-      args = p.stacks.args.items;
-      top = p.stacks.top;
-      marks = reverse p.stacks.marks.items;
-      temps = reverse p.stacks.temps.items;
-      scopes = reverse p.stacks.scopes.items;
-      names = reverse p.names.items;
-    }
+use Rattle.xs_api.specs.Views.{world_of}
+use Rattle.xs_api.specs.World.{World}
 
 abbrev pub task_of : Typed → Task → Work
 task_of t (task.DoTree i) = DoTree (tree_at t.texts.items t.nodes.items i)
@@ -63,17 +49,6 @@ state_of m = record { vars = m.vars.items; frame = m.frame; store = world_of m.p
 
 abbrev pub mach_of : Machine → Mach World
 mach_of m = record { pending = pending_of m; operands = operands_of m; state = state_of m; stopped = m.stopped }
-
--- what a call of a row did is what the row does; want of memory says nothing
-abbrev pub Does : Effect World → Result Operand Halt → Frame → World → Type 0
-Does e (Ok v) f w = e ≡ Gives v f w
-Does e (Err (Way a)) f w = e ≡ Ends a f w
-Does e (Err Memory) f w = Unit {0}
-
--- what a sweep did
-abbrev pub Sweeps : Swept World → Result (Unit {0}) Trap → World → Type 0
-Sweeps e (Ok u) w = e ≡ Clean w
-Sweeps e (Err t) w = e ≡ Dirty t w
 
 -- the file that a machine runs
 abbrev pub code_in : Machine → Code

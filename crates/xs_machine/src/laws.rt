@@ -1,6 +1,6 @@
 //! Laws above the machine. These functions do nothing: their contracts are what is proved.
 ghost use Rattle.xs_machine.specs.Law.{CallMeans, MachineFollows, RunEnds};
-ghost use Rattle.xs_machine.specs.Rows.{counted_rows};
+ghost use Rattle.xs_api.specs.Rows.{counted_rows};
 ghost use Rattle.xs_ccheck.specs.Tree.{Code};
 
 /// From a tree with any work behind it the machine comes to where the tree's meaning says.

@@ -2,19 +2,20 @@
 ghost use Rattle.std.specs.Option.{option_copied};
 ghost use Rattle.std.specs.Prelude.{◌≡◌, ◌≢◌, ◌+◌, ◌≤◌, [], ◌∷◌, IfOk, IsErr, length, Ok, OnErr, OnOk, Some, false, reverse};
 ghost use Rattle.xs_ccheck.specs.Functions.{code_of};
-ghost use Rattle.xs_machine.specs.Heaps.{value_at};
+ghost use Rattle.xs_api.specs.Heaps.{value_at};
 ghost use Rattle.xs_machine.specs.Machine as machine;
-ghost use Rattle.xs_machine.specs.Rows.{counted_rows};
+ghost use Rattle.xs_api.specs.Rows.{counted_rows};
 ghost use Rattle.xs_machine.specs.State as state;
 ghost use Rattle.xs_machine.specs.Views.{IsFailed, MakesArgument, code_in, mach_of, operands_of, pending_of, state_of, task_of};
-ghost use Rattle.xs_machine.specs.World as world;
-ghost use Rattle.xs_machine.specs.World.{depths_of, live_of};
+ghost use Rattle.xs_api.specs.World as world;
+ghost use Rattle.xs_api.specs.World.{depths_of, live_of};
 
-use crate::api::{Abrupt, Frame, MOST_ITEMS, Operand, Perl, Registered, Stop};
-use crate::heap::{Heap, HeapFail};
-use crate::stacks::{Depths, Stacks, pop_top, push_top};
 use crate::work::act_on;
 use std::alloc::Global;
+use xs_api::{
+    Abrupt, Depths, Frame, Heap, HeapFail, MOST_ITEMS, Operand, Perl, Registered, Stacks, Stop,
+    pop_top, push_top,
+};
 use xs_base::{Bytes, Items, Memory};
 use xs_ccheck::{RowNode, Typed, ValueType};
 use xs_values::{Kind, Name, Op, Plain, Trap};

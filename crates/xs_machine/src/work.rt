@@ -2,15 +2,14 @@
 ghost use Rattle.std.specs.Prelude.{◌≡◌, ◌∷◌, [], IfOk, OnOk, Some, replicate, reverse, slice_index_or, slice_set};
 ghost use Rattle.xs_ccheck.specs.Arena.{row_of, tree_at, tree_from, trees_at};
 ghost use Rattle.xs_machine.specs.Machine as machine;
-ghost use Rattle.xs_machine.specs.Rows.{counted_rows};
+ghost use Rattle.xs_api.specs.Rows.{counted_rows};
 ghost use Rattle.xs_machine.specs.State as state;
 ghost use Rattle.xs_ccheck.specs.Tree.{Function, tree_count};
 ghost use Rattle.xs_machine.specs.Views.{Operates, code_in, given_or, mach_of, operands_of, pending_of, state_of, task_of};
 
-use crate::api::{Abrupt, Halt, Operand};
 use crate::machine::{Machine, Outcome, Task};
-use crate::stacks::{Depths, pop_top};
 use std::alloc::Global;
+use xs_api::{Abrupt, Depths, Halt, Operand, pop_top};
 use xs_base::{Bytes, Items, Memory};
 use xs_ccheck::{Callable, Node, RowNode, Typed, ValueType};
 use xs_values::{Kind, Op, Trap, arith, wrap};

@@ -1,6 +1,7 @@
 -- A command that stands on a line by the grammar is read as that.
-use Rattle.std.proofs.Common.{◌≡◌, ℕ, zero, suc, ◌+◌, ◌-◌, ◌<◌, ◌≤◌, Bool, true, false, ◌&&◌, List, [], ◌∷◌, ◌++◌, length, map, append_assoc, Some, refl, ap, ◌∙◌, arith, max}
+use Rattle.std.proofs.Common.{◌≡◌, ℕ, zero, suc, ◌+◌, ◌-◌, ◌<◌, ◌≤◌, Bool, true, false, ◌&&◌, List, [], ◌∷◌, ◌++◌, length, map, append_assoc, refl, ap, ◌∙◌, arith, max, Ok}
 use Rattle.std.specs.Prelude.{codes}
+use Rattle.std.proofs.lemmas.Bool.{and_right}
 use Rattle.std.specs.Str.{bytes_eq}
 use Rattle.xs_base.specs.declared.place.Line.{Line}
 use Rattle.xs_script.specs.declared.scope.Scope.{Scope}
@@ -11,16 +12,17 @@ use Rattle.xs_script.specs.Expr.{Expr, Act}
 use Rattle.xs_script.specs.Form.{Form, Forms, Pairs, Deed, Written}
 use Rattle.xs_script.specs.Grammar as g
 use Rattle.xs_script.specs.Grammar.{Stands, Elements, Entries, NamesSub, SomeArguments, Arguments, Does, AllDo, Command}
-use Rattle.xs_script.specs.Input.{Input, Outcome, head_is, is_mark, is_word, kind_at, tail, sees, sees_word, next, kind_of, left, after, after_word, expect, name, number, text, sub_name, named, start_of, met}
-use Rattle.xs_script.specs.Meaning.{made, made_args, act_of, said_of, reach_written, met_in, judge, IsWritten}
+use Rattle.xs_base.specs.Readers.{head_is, tail}
+use Rattle.xs_script.specs.Input.{Input, Outcome, is_mark, is_word, kind_at, sees, sees_word, next, kind_of, left, after, after_word, expect, sub_name, named, start_of, met, part, names_sub}
+use Rattle.xs_script.specs.Meaning.{made, made_args, act_of, said_of, contents_of, met_in, judge, IsWritten}
 use Rattle.xs_script.specs.Numbers.{argument_of}
-use Rattle.xs_script.specs.Rules.{arguments_from, some_arguments, arguments, set_action, call_action, action, actions_from, actions, names_sub, sees_call, call_value, my_command, call_command, isa_command, sub_command, variable_command, by_word, at_end, command}
+use Rattle.xs_script.specs.Rules.{arguments_from, some_arguments, arguments, set_action, call, action, actions_from, actions, sees_call, my_command, isa_command, sub_command, variable_command, by_word, at_end, command}
 use Rattle.xs_script.specs.Script.{line_of, reading_of, is_skipped}
 use Rattle.xs_script.specs.Value.{value, variable, argument, turns}
 use Rattle.xs_script.proofs.Forms.{at, out_of_range, met_form, met_args, met_deed, met_deeds, steps, steps_list, steps_pairs, ranged_done}
 use Rattle.xs_script.proofs.Marks.{met_written, written_marks}
 use Rattle.xs_script.proofs.SpelledDone.{spelled_done}
-use Rattle.xs_script.proofs.Complete.{form_done, not_round, steps_positive}
+use Rattle.xs_script.proofs.Complete.{form_done, not_first}
 
 mutual
   pub form_shrinks : {s : Bool} {e : Form} {ts us : List Token} → Stands s e ts us → steps e + length us ≤ length ts
@@ -44,28 +46,28 @@ mutual
   entries_shrink (g.more_pairs x y) = omega (arith, form_shrinks x, entries_shrink y)
 
 -- an expression that stands is read
-pub value_done : {s : Bool} {e : Form} {ts us : List Token} → Stands s e ts us → (i : Input) → value s (at ts i) ≡ Some (made 0 e, at us (met_form 0 e i))
+pub value_done : {s : Bool} {e : Form} {ts us : List Token} → Stands s e ts us → (i : Input) → value s (at ts i) ≡ Ok (made 0 e, at us (met_form 0 e i))
 unfolding value left turns
 value_done {s} {e} {ts} {us} x i = form_done x (length ts + 1) (suc (length ts - steps e)) (omega (arith, form_shrinks x)) [] i
 
 some_not_round : {s : Bool} {es : List Form} {ts us : List Token} → SomeArguments s es ts us → head_is (is_mark mark.CloseRound) ts ≡ false
-some_not_round (g.last_argument x) = not_round x
-some_not_round (g.more_arguments x y) = not_round x
+some_not_round (g.last_argument x) = not_first mark.CloseRound refl refl refl x
+some_not_round (g.more_arguments x y) = not_first mark.CloseRound refl refl refl x
 
 some_shrink : {s : Bool} {es : List Form} {ts us : List Token} → SomeArguments s es ts us → length us < length ts
-some_shrink (g.last_argument x) = omega (arith, form_shrinks x, steps_positive x)
+some_shrink (g.last_argument x) = omega (arith, form_shrinks x)
 some_shrink (g.more_arguments x y) = omega (arith, form_shrinks x, some_shrink y)
 
 some_done : {s : Bool} {es : List Form} {ts us : List Token} → SomeArguments s es ts us → (n : ℕ) → length ts ≤ n → (all : List Expr) (i : Input)
-    → arguments_from s n all (at ts i) ≡ Some (all ++ made_args es, at us (met_args es i))
+    → arguments_from s n all (at ts i) ≡ Ok (all ++ made_args es, at us (met_args es i))
 unfolding arguments_from sees next after expect
 some_done x zero few all i = absurd (omega (arith, some_shrink x))
 some_done (g.last_argument x) (suc n) few all i = rw (value_done x i) refl
 some_done (g.more_arguments {e = e} {es = es} {us = us} {vs = vs} x y) (suc n) few all i =
-    rw (value_done x i) (some_done y n (omega (arith, form_shrinks x, steps_positive x)) (all ++ made 0 e ∷ []) (met_form 0 e i)
-    ∙ ap (λ (l : List Expr). let o : Outcome (List Expr) = Some (l, at vs (met_args es (met_form 0 e i))) in o) (append_assoc all (made 0 e ∷ []) (made_args es)))
+    rw (value_done x i) (some_done y n (omega (arith, form_shrinks x)) (all ++ made 0 e ∷ []) (met_form 0 e i)
+    ∙ ap (λ (l : List Expr). let o : Outcome (List Expr) = Ok (l, at vs (met_args es (met_form 0 e i))) in o) (append_assoc all (made 0 e ∷ []) (made_args es)))
 
-arguments_done : {s : Bool} {es : List Form} {ts us : List Token} → Arguments s es ts us → (i : Input) → arguments s (at ts i) ≡ Some (made_args es, at us (met_args es i))
+arguments_done : {s : Bool} {es : List Form} {ts us : List Token} → Arguments s es ts us → (i : Input) → arguments s (at ts i) ≡ Ok (made_args es, at us (met_args es i))
 unfolding arguments some_arguments sees next after expect left
 arguments_done g.no_arguments i = refl
 arguments_done (g.some_arguments {ts = ts} x) i = rw (some_not_round x) (some_done x (length ts) (omega arith) [] i)
@@ -74,8 +76,8 @@ arguments_shrink : {s : Bool} {es : List Form} {ts us : List Token} → Argument
 arguments_shrink g.no_arguments = omega arith
 arguments_shrink (g.some_arguments x) = omega (arith, some_shrink x)
 
-sub_done : {n : List ℕ} {t : Token} → NamesSub n t → (ts : List Token) (i : Input) → sub_name (at (t ∷ ts) i) ≡ Some (n, at ts i)
-unfolding sub_name next
+sub_done : {n : List ℕ} {t : Token} → NamesSub n t → (ts : List Token) (i : Input) → sub_name (at (t ∷ ts) i) ≡ Ok (n, at ts i)
+unfolding sub_name part kind_of next
 sub_done g.bare ts i = refl
 sub_done g.in_quotes ts i = refl
 
@@ -83,8 +85,8 @@ sub_kind : {n : List ℕ} {t : Token} → NamesSub n t → (ts : List Token) →
 sub_kind g.bare ts = refl
 sub_kind g.in_quotes ts = refl
 
-deed_done : {d : Deed} {ts us : List Token} → Does d ts us → (i : Input) → action (at ts i) ≡ Some (act_of d, at us (met_deed d i))
-unfolding action set_action call_action argument number text sees_word after_word sees next after expect
+deed_done : {d : Deed} {ts us : List Token} → Does d ts us → (i : Input) → action (at ts i) ≡ Ok (act_of d, at us (met_deed d i))
+unfolding action set_action call argument part sees_word after_word sees next after expect
 deed_done (g.push x) i = rw (value_done x i) refl
 deed_done (g.set {k = k} {ts = ts} x) i = rw (ranged_done (argument_of k) 0 k (token.Mark mark.Equals ∷ ts) i, value_done x (out_of_range (argument_of k) k i)) refl
 deed_done (g.call {ts = ts} nm x) i = rw (sub_done nm ts i, arguments_done x i) refl
@@ -96,25 +98,21 @@ deed_shrinks (g.set x) = omega (arith, form_shrinks x)
 deed_shrinks (g.call nm x) = omega (arith, arguments_shrink x)
 deed_shrinks g.die = omega arith
 
-deeds_done : {ds : List Deed} {ts : List Token} → AllDo ds ts → (n : ℕ) → length ts ≤ n → (all : List Act) (i : Input) → actions_from n all (at ts i) ≡ Some (all ++ map act_of ds, at [] (met_deeds ds i))
+deeds_done : {ds : List Deed} {ts : List Token} → AllDo ds ts → (n : ℕ) → length ts ≤ n → (all : List Act) (i : Input) → actions_from n all (at ts i) ≡ Ok (all ++ map act_of ds, at [] (met_deeds ds i))
 unfolding actions_from sees next after
 deeds_done (g.last_deed x) zero few all i = absurd (omega (arith, deed_shrinks x))
 deeds_done (g.more_deeds x y) zero few all i = absurd (omega (arith, deed_shrinks x))
 deeds_done (g.last_deed x) (suc n) few all i = rw (deed_done x i) refl
 deeds_done (g.more_deeds {d = d} {ds = ds} x y) (suc n) few all i =
     rw (deed_done x i) (deeds_done y n (omega (arith, deed_shrinks x)) (all ++ act_of d ∷ []) (met_deed d i)
-    ∙ ap (λ (l : List Act). let o : Outcome (List Act) = Some (l, at [] (met_deeds ds (met_deed d i))) in o) (append_assoc all (act_of d ∷ []) (map act_of ds)))
-
-and_no : (b : Bool) → (b && false) ≡ false
-and_no true = refl
-and_no false = refl
+    ∙ ap (λ (l : List Act). let o : Outcome (List Act) = Ok (l, at [] (met_deeds ds (met_deed d i))) in o) (append_assoc all (act_of d ∷ []) (map act_of ds)))
 
 -- an expression that nothing follows is no call
 no_call : {s : Bool} {e : Form} {ts us : List Token} → Stands s e ts us → names_sub (kind_at us) ≡ false → (head_is (is_word (codes "call")) ts && names_sub (kind_at (tail ts))) ≡ false
 no_call g.undef h = refl
 no_call g.number h = refl
 no_call g.text h = refl
-no_call (g.variable {n = n} u) h = rw h (and_no (bytes_eq n (codes "call")))
+no_call (g.variable {n = n} {ts = us} u) h = and_right (bytes_eq n (codes "call")) (names_sub (kind_at us)) h
 no_call g.reference h = refl
 no_call g.argument h = refl
 no_call g.no_elements h = refl
@@ -122,8 +120,8 @@ no_call (g.elements x) h = refl
 no_call g.no_pairs h = refl
 no_call (g.pairs x) h = refl
 
-pub command_done : {c : Written} {ts : List Token} → Command c ts → (line : ℕ) (i : Input) → command line (at ts i) ≡ Some (said_of line c, at [] (met_written c i))
-unfolding command at_end by_word my_command call_value call_command isa_command sub_command variable_command actions sees_call name variable named sees_word after_word sees next after expect kind_of left
+pub command_done : {c : Written} {ts : List Token} → Command c ts → (line : ℕ) (i : Input) → command line (at ts i) ≡ Ok (said_of line c, at [] (met_written c i))
+unfolding command at_end by_word my_command call isa_command sub_command variable_command actions sees_call part variable named sees_word after_word sees next after expect kind_of left
 command_done (g.my x) line i = rw (no_call x refl, value_done x i) refl
 command_done (g.my_call {ts = ts} nm x) line i = rw (sub_kind nm ts, sub_done nm ts i, arguments_done x i) refl
 command_done g.ro line i = refl
@@ -137,9 +135,9 @@ none_max : (r : ℕ) → max 0 r ≡ r
 none_max r = omega arith
 
 met_done : (c : Written) (scope : Scope) (ts : List Token) → met (at [] (met_written c (start_of scope ts))) ≡ met_in scope c
-met_done c scope ts = rw (written_marks c (start_of scope ts), none_max (reach_written c)) refl
+met_done c scope ts = rw (written_marks c (start_of scope ts), none_max (contents_of c).reach) refl
 
-pub reading_done : (scope : Scope) (line : Line) (c : Written) (w : IsWritten c line.text) → reading_of scope line ≡ Some (said_of line.number c, at [] (met_written c (start_of scope w.0)))
+pub reading_done : (scope : Scope) (line : Line) (c : Written) (w : IsWritten c line.text) → reading_of scope line ≡ Ok (said_of line.number c, at [] (met_written c (start_of scope w.0)))
 unfolding reading_of
 reading_done scope line c w = rw (spelled_done w.1) (command_done w.2 line.number (start_of scope w.0))
 

@@ -1,5 +1,5 @@
 -- What reading an expression meets and how many turns it takes, form by form.
-use Rattle.std.proofs.Common.{◌≡◌, ℕ, suc, ◌+◌, List, [], ◌∷◌, Option, Some, None, refl}
+use Rattle.std.proofs.Common.{◌≡◌, ℕ, suc, ◌+◌, List, [], ◌∷◌, Option, Some, None, refl, Ok}
 use Rattle.std.specs.Prelude.{unwrap_or}
 use Rattle.xs_script.specs.declared.token.Token.{Token}
 use Rattle.xs_script.specs.Form as f
@@ -35,9 +35,12 @@ abbrev mutual
   met_pairs d f.NoPair i = i
   met_pairs d (f.MorePairs k e ps) i = met_pairs d ps (met_form d e i)
 
+abbrev pub met_all : {X : Type 0} → (X → Input → Input) → List X → Input → Input
+met_all met [] i = i
+met_all met (x ∷ xs) i = met_all met xs (met x i)
+
 abbrev pub met_args : List Form → Input → Input
-met_args [] i = i
-met_args (e ∷ es) i = met_args es (met_form 0 e i)
+met_args es i = met_all (met_form 0) es i
 
 abbrev pub met_deed : Deed → Input → Input
 met_deed (f.Push e) i = met_form 0 e i
@@ -46,30 +49,33 @@ met_deed (f.Call n es) i = met_args es i
 met_deed (f.Die content) i = i
 
 abbrev pub met_deeds : List Deed → Input → Input
-met_deeds [] i = i
-met_deeds (d ∷ ds) i = met_deeds ds (met_deed d i)
+met_deeds ds i = met_all met_deed ds i
 
--- the turns that an expression takes
+-- the turns that are taken by what stands in the brackets of an expression
 abbrev mutual
-  pub steps : Form → ℕ
-  steps f.Undef = 1
-  steps (f.Number n) = 1
-  steps (f.Text content) = 1
-  steps (f.Variable n) = 1
-  steps (f.Reference n) = 1
-  steps (f.ListOf fs) = steps_list fs + 1
-  steps (f.HashOf ps) = steps_pairs ps + 1
-  steps (f.Argument k) = 1
+  pub inner : Form → ℕ
+  inner f.Undef = 0
+  inner (f.Number n) = 0
+  inner (f.Text content) = 0
+  inner (f.Variable n) = 0
+  inner (f.Reference n) = 0
+  inner (f.ListOf fs) = steps_list fs
+  inner (f.HashOf ps) = steps_pairs ps
+  inner (f.Argument k) = 0
 
   pub steps_list : Forms → ℕ
   steps_list f.NoForm = 0
-  steps_list (f.MoreForms e fs) = steps e + 1 + steps_list fs
+  steps_list (f.MoreForms e fs) = inner e + 2 + steps_list fs
 
   pub steps_pairs : Pairs → ℕ
   steps_pairs f.NoPair = 0
-  steps_pairs (f.MorePairs k e ps) = steps e + 1 + steps_pairs ps
+  steps_pairs (f.MorePairs k e ps) = inner e + 2 + steps_pairs ps
 
-pub ranged_done : {A : Type 0} (o : Option A) (stand_in : A) (text : List ℕ) (ts : List Token) (i : Input) → ranged o stand_in text (at ts i) ≡ Some (unwrap_or o stand_in, at ts (out_of_range o text i))
+-- the turns that an expression takes
+abbrev pub steps : Form → ℕ
+steps e = inner e + 1
+
+pub ranged_done : {A : Type 0} (o : Option A) (stand_in : A) (text : List ℕ) (ts : List Token) (i : Input) → ranged o stand_in text (at ts i) ≡ Ok (unwrap_or o stand_in, at ts (out_of_range o text i))
 unfolding exceeded
 ranged_done (Some a) stand_in text ts i = refl
 ranged_done None stand_in text ts i = refl

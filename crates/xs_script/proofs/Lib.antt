@@ -1,3 +1,4 @@
+pub mod Fronts
 pub mod LexSteps
 pub mod SpelledDone
 pub mod SpelledSound

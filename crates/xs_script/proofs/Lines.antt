@@ -1,5 +1,5 @@
 -- How the commands of lines go on.
-use Rattle.std.proofs.Common.{◌≡◌, ℕ, suc, ◌+◌, ◌<◌, ◌≤◌, List, [], ◌∷◌, ◌++◌, length, get_or, drop, Some, None, Result, Ok, Err, refl, ap, ◌∙◌, arith, append_assoc}
+use Rattle.std.proofs.Common.{◌≡◌, ℕ, suc, ◌+◌, ◌<◌, ◌≤◌, List, [], ◌∷◌, ◌++◌, length, get_or, drop, Some, None, Result, Ok, refl, ap, ◌∙◌, arith}
 use Rattle.std.proofs.lemmas.List.{append-nil}
 use Rattle.std.proofs.Math.Seq.{drop-cons}
 use Rattle.std.proofs.Math.ListN.{drop_of_length-le}
@@ -10,11 +10,9 @@ use Rattle.xs_base.specs.declared.place.Line.{Line}
 use Rattle.xs_base.specs.Reading.{Fails, ◌>>=◌}
 use Rattle.xs_script.specs.declared.scope.Scope.{Scope}
 use Rattle.xs_script.specs.Expr.{Said}
-use Rattle.xs_script.specs.Script.{line_of, commands_from, with_front, go_on, behind}
-
-with_front-with_front : (xs ys : List Said) (r : Result (List Said) Fault) → with_front xs (with_front ys r) ≡ with_front (xs ++ ys) r
-with_front-with_front xs ys (Ok zs) = ap (λ (l : List Said). let r : Result (List Said) Fault = Ok l in r) (simp append_assoc)
-with_front-with_front xs ys (Err f) = refl
+use Rattle.xs_script.specs.Fronts.{with_front}
+use Rattle.xs_script.specs.Script.{line_of, commands_from, go_on, behind}
+use Rattle.xs_script.proofs.Fronts.{with_front-with_front}
 
 commands_from-drop : (lines : List Line) (i : ℕ) (d : Line) (scope : Scope) → i < length lines
     → commands_from (drop i lines) scope ≡ (line_of scope (get_or lines i d) >>= λ said. go_on said scope (commands_from (drop (i + 1) lines)))

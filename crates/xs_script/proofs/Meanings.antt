@@ -13,26 +13,27 @@ use Rattle.xs_script.specs.declared.scope.Scope.{Scope}
 use Rattle.xs_script.specs.declared.token.Token.{Token}
 use Rattle.xs_script.specs.Expr.{Said}
 use Rattle.xs_script.specs.Form.{Written}
-use Rattle.xs_script.specs.Input.{Input, Outcome, start_of}
+use Rattle.xs_script.specs.Input.{Input, NoReading, Outcome, start_of}
+use Rattle.xs_script.specs.Fronts.{with_front}
 use Rattle.xs_script.specs.Lex.{tokens_of}
 use Rattle.xs_script.specs.Meaning as m
 use Rattle.xs_script.specs.Meaning.{IsWritten, LineMeans, LinesMean, Means, judge}
-use Rattle.xs_script.specs.Script.{line_of, reading_of, read_parts, judged, fault, is_skipped, commands_from, script_of, go_on, with_front, behind, empty_scope}
+use Rattle.xs_script.specs.Script.{line_of, reading_of, read_parts, judged, fault, is_skipped, commands_from, script_of, go_on, behind, empty_scope}
 use Rattle.xs_script.specs.View.{said_all}
 use Rattle.xs_script.proofs.CompleteLines.{reading_done, line_done}
 use Rattle.xs_script.proofs.SoundLines.{command_sound}
 use Rattle.xs_script.proofs.SpelledSound.{spelled_sound}
 
-reading_written : (scope : Scope) (line : Line) (c : Said) (i : Input) → reading_of scope line ≡ Some (c, i) → (w : Written) × IsWritten w line.text
+reading_written : (scope : Scope) (line : Line) (c : Said) (i : Input) → reading_of scope line ≡ Ok (c, i) → (w : Written) × IsWritten w line.text
 unfolding reading_of
 reading_written scope line c i h = by_parts (tokens_of line.text) refl h
   where
-    by_parts : (parts : Option (List Token)) → tokens_of line.text ≡ parts → read_parts scope line.number parts ≡ Some (c, i) → (w : Written) × IsWritten w line.text
-    by_parts None e h = absurd cc
-    by_parts (Some ts) e h = let x = command_sound line.number (start_of scope ts) i c h in (x.0, (ts, spelled_sound line.text ts e, x.1))
+    by_parts : (parts : Result (List Token) NoReading) → tokens_of line.text ≡ parts → read_parts scope line.number parts ≡ Ok (c, i) → (w : Written) × IsWritten w line.text
+    by_parts (Err x) e h = absurd cc
+    by_parts (Ok ts) e h = let x = command_sound line.number (start_of scope ts) i c h in (x.0, (ts, spelled_sound line.text ts e, x.1))
 
-none_some : {A : Type 0} (a : A) → ◌≡◌ {A = Option A} None (Some a) → ⊥
-none_some a h = cc
+err_ok : {A E : Type 0} (e : E) (a : A) → ◌≡◌ {A = Result A E} (Err e) (Ok a) → ⊥
+err_ok e a h = cc
 
 -- each line means what is read in it
 line_means : (scope : Scope) (line : Line) → LineMeans scope line (line_of scope line)
@@ -40,10 +41,10 @@ unfolding line_of
 line_means scope line = by_skipped (is_skipped line.text) refl
   where
     by_reading : is_skipped line.text ≡ false → (o : Outcome Said) → reading_of scope line ≡ o → LineMeans scope line (judged scope line.number o)
-    by_reading s None e = m.unread s (λ c w. none_some _ (sym e ∙ reading_done scope line c w))
-    by_reading s (Some q) e =
+    by_reading s (Err x) e = m.unread s (λ c w. err_ok x _ (sym e ∙ reading_done scope line c w))
+    by_reading s (Ok q) e =
         let w = reading_written scope line q.0 q.1 e in
-        let same : judge scope line.number w.0 ≡ judged scope line.number (Some q) = sym (line_done scope line w.0 s w.1) ∙ rw (s, e) refl in
+        let same : judge scope line.number w.0 ≡ judged scope line.number (Ok q) = sym (line_done scope line w.0 s w.1) ∙ rw (s, e) refl in
         subst (λ r. LineMeans scope line r) same (m.written s w.1)
 
     by_skipped : (b : Bool) → is_skipped line.text ≡ b → LineMeans scope line (if b then Ok None else judged scope line.number (reading_of scope line))
@@ -57,8 +58,8 @@ line_is (m.skipped s) = rw s refl
 line_is (m.unread {scope = scope} {line = line} s none) = rw s (by_reading (reading_of scope line) refl)
   where
     by_reading : (o : Outcome Said) → reading_of scope line ≡ o → Err (fault line.number 951 []) ≡ judged scope line.number o
-    by_reading None e = refl
-    by_reading (Some q) e = let w = reading_written scope line q.0 q.1 e in absurd (none w.0 w.1)
+    by_reading (Err x) e = refl
+    by_reading (Ok q) e = let w = reading_written scope line q.0 q.1 e in absurd (none w.0 w.1)
 line_is (m.written {scope = scope} {line = line} {c = c} s w) = sym (line_done scope line c s w)
 
 lines_mean : (lines : List Line) (scope : Scope) → LinesMean scope lines (commands_from lines scope)

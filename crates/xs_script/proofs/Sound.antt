@@ -1,6 +1,6 @@
 -- What is read as an expression stands there by the grammar.
-use Rattle.std.proofs.Common.{◌≡◌, ℕ, ◌==◌, Bool, true, false, List, [], ◌∷◌, Option, Some, None, refl, ap, sym, ◌∙◌, subst, if◌then◌else◌}
-use Rattle.std.specs.Prelude.{codes}
+use Rattle.std.proofs.Common.{◌≡◌, ℕ, ◌==◌, Bool, true, false, List, [], ◌∷◌, Option, Some, None, refl, ap, sym, ◌∙◌, subst, if◌then◌else◌, Ok, Err}
+use Rattle.std.specs.Prelude.{codes, unwrap_or}
 use Rattle.std.specs.Str.{bytes_eq}
 use Rattle.std.proofs.lemmas.Bool.{eqb-true}
 use Rattle.std.proofs.lemmas.Slice.Eq.{bytes_eq-Decides}
@@ -17,37 +17,29 @@ use Rattle.xs_script.specs.Form as f
 use Rattle.xs_script.specs.Form.{Form}
 use Rattle.xs_script.specs.Grammar as g
 use Rattle.xs_script.specs.Grammar.{Stands, NamesSub}
-use Rattle.xs_script.specs.Input.{Input, Outcome, Reader, and_then, head_is, is_mark, is_word, mark_byte, tail, sees, sees_word, next, kind_of, after_word, expect, name, name_at, number, number_at, text, text_at, sub_name, sub_at, taken, named, exceeded, noted, pure, refuse, ◌>>=◌, ◌>>◌, ◌<$>◌}
+use Rattle.xs_base.specs.Readers.{and_then, head_is, tail, pure, ◌>>=◌, ◌>>◌, ◌<$>◌}
+use Rattle.xs_script.specs.Input.{Input, Outcome, Reader, is_mark, is_word, mark_byte, sees, sees_word, next, kind_of, after_word, expect, sub_name, taken, named, exceeded, noted, refuse, part, bytes_in, bytes_at, names_sub}
+use Rattle.xs_script.specs.Lex.{single}
 use Rattle.xs_script.specs.Numbers.{number_of, argument_of}
 use Rattle.xs_script.specs.Value.{simple, simple_by, by_name, reference, variable, argument, whole_number, ranged}
 
-pub same_some : {A : Type 0} (a b : A) (i k : Input) → ◌≡◌ {A = Outcome A} (Some (a, i)) (Some (b, k)) → (a ≡ b) × (i ≡ k)
-same_some {A} a b i k h = let e : ◌≡◌ {A = A × Input} (a, i) (b, k) = cc in (ap (λ (q : A × Input). q.0) e, ap (λ (q : A × Input). q.1) e)
+pub same_read : {A : Type 0} (a b : A) (i k : Input) → ◌≡◌ {A = Outcome A} (Ok (a, i)) (Ok (b, k)) → (a ≡ b) × (i ≡ k)
+same_read {A} a b i k h = let e : ◌≡◌ {A = A × Input} (a, i) (b, k) = cc in (ap (λ (q : A × Input). q.0) e, ap (λ (q : A × Input). q.1) e)
 
-pub bind_ok : {A B : Type 0} (r : Outcome A) (next : A → Reader B) (b : B × Input) → and_then r next ≡ Some b → (a : A) × (j : Input) × (r ≡ Some (a, j)) × (next a j ≡ Some b)
-bind_ok (Some q) next b h = (q.0, q.1, refl, h)
-bind_ok None next b h = absurd cc
+pub bind_ok : {A B : Type 0} (r : Outcome A) (next : A → Reader B) (b : B × Input) → and_then r next ≡ Ok b → (a : A) × (j : Input) × (r ≡ Ok (a, j)) × (next a j ≡ Ok b)
+bind_ok (Ok q) next b h = (q.0, q.1, refl, h)
+bind_ok (Err e) next b h = absurd cc
 
-pub map_ok : {A B : Type 0} (h : A → B) (r : Outcome A) (b : B) (k : Input) → and_then r (λ x. pure (h x)) ≡ Some (b, k) → (a : A) × (r ≡ Some (a, k)) × (b ≡ h a)
-map_ok {A} {B} h (Some q) b k e =
-    let s = same_some (h q.0) b q.1 k e in
-    (q.0, ap (λ (j : Input). let r : Outcome A = Some (q.0, j) in r) s.1, sym s.0)
-map_ok h None b k e = absurd cc
+pub map_ok : {A B : Type 0} (h : A → B) (r : Outcome A) (b : B) (k : Input) → and_then r (λ x. pure (h x)) ≡ Ok (b, k) → (a : A) × (r ≡ Ok (a, k)) × (b ≡ h a)
+map_ok {A} {B} h (Ok q) b k e =
+    let s = same_read (h q.0) b q.1 k e in
+    (q.0, ap (λ (j : Input). let r : Outcome A = Ok (q.0, j) in r) s.1, sym s.0)
+map_ok h (Err f) b k e = absurd cc
 
 -- ---- one part
 
 mark_from : ℕ → Mark
-mark_from b =
-    if b == 61 then mark.Equals
-    else (if b == 62 then mark.Arrow
-    else (if b == 40 then mark.OpenRound
-    else (if b == 41 then mark.CloseRound
-    else (if b == 91 then mark.OpenSquare
-    else (if b == 93 then mark.CloseSquare
-    else (if b == 123 then mark.OpenCurly
-    else (if b == 125 then mark.CloseCurly
-    else (if b == 44 then mark.Comma
-    else (if b == 59 then mark.Semicolon else mark.Backslash)))))))))
+mark_from b = if b == 62 then mark.Arrow else unwrap_or (single b) mark.Backslash
 
 mark_from-byte : (m : Mark) → mark_from (mark_byte m) ≡ m
 unfolding mark_from
@@ -94,86 +86,100 @@ behind t ts us e e' = e ∙ ap (λ (l : List Token). t ∷ l) e'
 pub rest_of : (i j : Input) → i ≡ j → i.rest ≡ j.rest
 rest_of i j e = ap (λ (k : Input). k.rest) e
 
-pub expect_sound : (m : Mark) (i j : Input) (u : Unit {0}) → expect m i ≡ Some (u, j) → i.rest ≡ token.Mark m ∷ j.rest
+pub expect_sound : (m : Mark) (i j : Input) (u : Unit {0}) → expect m i ≡ Ok (u, j) → i.rest ≡ token.Mark m ∷ j.rest
 unfolding expect next
 expect_sound m i j u h = by_sees (sees m i) refl h
   where
-    by_sees : (b : Bool) → sees m i ≡ b → (if b then Some (tt, next i) else refuse i) ≡ Some (u, j) → i.rest ≡ token.Mark m ∷ j.rest
-    by_sees true e h = behind (token.Mark m) i.rest j.rest (sees_sound m i e) (rest_of (next i) j (same_some tt u (next i) j h).1)
+    by_sees : (b : Bool) → sees m i ≡ b → (if b then Ok (tt, next i) else refuse i) ≡ Ok (u, j) → i.rest ≡ token.Mark m ∷ j.rest
+    by_sees true e h = behind (token.Mark m) i.rest j.rest (sees_sound m i e) (rest_of (next i) j (same_read tt u (next i) j h).1)
     by_sees false e h = absurd cc
 
-name_rest : (ts : List Token) (i j : Input) (n : List ℕ) → taken (name_at ts) i ≡ Some (n, j) → (ts ≡ token.Name n ∷ tail ts) × (next i ≡ j)
-name_rest [] i j n h = absurd cc
-name_rest (token.Name m ∷ ts) i j n h = let s = same_some m n (next i) j h in (ap (λ (q : List ℕ). token.Name q ∷ ts) s.0, s.1)
-name_rest (token.Number m ∷ ts) i j n h = absurd cc
-name_rest (token.Text m ∷ ts) i j n h = absurd cc
-name_rest (token.Mark m ∷ ts) i j n h = absurd cc
+-- the part of this kind with these bytes
+abbrev part_of : Kind → List ℕ → Token
+part_of kind.Name n = token.Name n
+part_of kind.Number n = token.Number n
+part_of kind.Text n = token.Text n
+part_of kind.Mark n = token.Mark mark.Comma
+part_of kind.End n = token.Mark mark.Comma
 
-number_rest : (ts : List Token) (i j : Input) (n : List ℕ) → taken (number_at ts) i ≡ Some (n, j) → (ts ≡ token.Number n ∷ tail ts) × (next i ≡ j)
-number_rest [] i j n h = absurd cc
-number_rest (token.Number m ∷ ts) i j n h = let s = same_some m n (next i) j h in (ap (λ (q : List ℕ). token.Number q ∷ ts) s.0, s.1)
-number_rest (token.Name m ∷ ts) i j n h = absurd cc
-number_rest (token.Text m ∷ ts) i j n h = absurd cc
-number_rest (token.Mark m ∷ ts) i j n h = absurd cc
+bytes_from : (k : Kind) (t : Token) (n : List ℕ) → bytes_in k t ≡ Some n → t ≡ part_of k n
+bytes_from kind.Name (token.Name m) n h = ap (λ (q : List ℕ). token.Name q) cc
+bytes_from kind.Number (token.Number m) n h = ap (λ (q : List ℕ). token.Number q) cc
+bytes_from kind.Text (token.Text m) n h = ap (λ (q : List ℕ). token.Text q) cc
+bytes_from kind.Name (token.Number m) n h = absurd cc
+bytes_from kind.Name (token.Text m) n h = absurd cc
+bytes_from kind.Name (token.Mark m) n h = absurd cc
+bytes_from kind.Number (token.Name m) n h = absurd cc
+bytes_from kind.Number (token.Text m) n h = absurd cc
+bytes_from kind.Number (token.Mark m) n h = absurd cc
+bytes_from kind.Text (token.Name m) n h = absurd cc
+bytes_from kind.Text (token.Number m) n h = absurd cc
+bytes_from kind.Text (token.Mark m) n h = absurd cc
+bytes_from kind.Mark t n h = absurd cc
+bytes_from kind.End t n h = absurd cc
 
-text_rest : (ts : List Token) (i j : Input) (n : List ℕ) → taken (text_at ts) i ≡ Some (n, j) → (ts ≡ token.Text n ∷ tail ts) × (next i ≡ j)
-text_rest [] i j n h = absurd cc
-text_rest (token.Text m ∷ ts) i j n h = let s = same_some m n (next i) j h in (ap (λ (q : List ℕ). token.Text q ∷ ts) s.0, s.1)
-text_rest (token.Name m ∷ ts) i j n h = absurd cc
-text_rest (token.Number m ∷ ts) i j n h = absurd cc
-text_rest (token.Mark m ∷ ts) i j n h = absurd cc
+part_rest : (k : Kind) (ts : List Token) (i j : Input) (n : List ℕ) → taken (bytes_at k ts) i ≡ Ok (n, j) → (ts ≡ part_of k n ∷ tail ts) × (next i ≡ j)
+part_rest k [] i j n h = absurd cc
+part_rest k (t ∷ ts) i j n h = by_bytes (bytes_in k t) refl h
+  where
+    by_bytes : (o : Option (List ℕ)) → bytes_in k t ≡ o → taken o i ≡ Ok (n, j) → (t ∷ ts ≡ part_of k n ∷ ts) × (next i ≡ j)
+    by_bytes None e h = absurd cc
+    by_bytes (Some m) e h =
+        let s = same_read m n (next i) j h in
+        (ap (λ (q : Token). q ∷ ts) (bytes_from k t n (e ∙ ap (λ (q : List ℕ). Some q) s.0)), s.1)
 
-sub_rest : (ts : List Token) (i j : Input) (n : List ℕ) → taken (sub_at ts) i ≡ Some (n, j) → (t : Token) × NamesSub n t × (ts ≡ t ∷ tail ts) × (next i ≡ j)
-sub_rest [] i j n h = absurd cc
-sub_rest (token.Text m ∷ ts) i j n h = let s = same_some m n (next i) j h in (token.Text n, g.in_quotes, ap (λ (q : List ℕ). token.Text q ∷ ts) s.0, s.1)
-sub_rest (token.Name m ∷ ts) i j n h = let s = same_some m n (next i) j h in (token.Name n, g.bare, ap (λ (q : List ℕ). token.Name q ∷ ts) s.0, s.1)
-sub_rest (token.Number m ∷ ts) i j n h = absurd cc
-sub_rest (token.Mark m ∷ ts) i j n h = absurd cc
+part_sound : (k : Kind) (i j : Input) (n : List ℕ) → part k i ≡ Ok (n, j) → i.rest ≡ part_of k n ∷ j.rest
+unfolding part next
+part_sound k i j n h = let r = part_rest k i.rest i j n h in behind (part_of k n) i.rest j.rest r.0 (rest_of (next i) j r.1)
 
-pub name_sound : (i j : Input) (n : List ℕ) → name i ≡ Some (n, j) → i.rest ≡ token.Name n ∷ j.rest
-unfolding name next
-name_sound i j n h = let r = name_rest i.rest i j n h in behind (token.Name n) i.rest j.rest r.0 (rest_of (next i) j r.1)
+pub name_sound : (i j : Input) (n : List ℕ) → part kind.Name i ≡ Ok (n, j) → i.rest ≡ token.Name n ∷ j.rest
+name_sound = part_sound kind.Name
 
-pub number_sound : (i j : Input) (n : List ℕ) → number i ≡ Some (n, j) → i.rest ≡ token.Number n ∷ j.rest
-unfolding number next
-number_sound i j n h = let r = number_rest i.rest i j n h in behind (token.Number n) i.rest j.rest r.0 (rest_of (next i) j r.1)
+number_sound : (i j : Input) (n : List ℕ) → part kind.Number i ≡ Ok (n, j) → i.rest ≡ token.Number n ∷ j.rest
+number_sound = part_sound kind.Number
 
-pub text_sound : (i j : Input) (n : List ℕ) → text i ≡ Some (n, j) → i.rest ≡ token.Text n ∷ j.rest
-unfolding text next
-text_sound i j n h = let r = text_rest i.rest i j n h in behind (token.Text n) i.rest j.rest r.0 (rest_of (next i) j r.1)
+pub text_sound : (i j : Input) (n : List ℕ) → part kind.Text i ≡ Ok (n, j) → i.rest ≡ token.Text n ∷ j.rest
+text_sound = part_sound kind.Text
 
-pub sub_sound : (i j : Input) (n : List ℕ) → sub_name i ≡ Some (n, j) → (t : Token) × NamesSub n t × (i.rest ≡ t ∷ j.rest)
-unfolding sub_name next
-sub_sound i j n h = let r = sub_rest i.rest i j n h in (r.0, r.1, behind r.0 i.rest j.rest r.2 (rest_of (next i) j r.3))
+pub sub_sound : (i j : Input) (n : List ℕ) → sub_name i ≡ Ok (n, j) → (t : Token) × NamesSub n t × (i.rest ≡ t ∷ j.rest)
+unfolding sub_name
+sub_sound i j n h = by_kind (kind_of i) h
+  where
+    by_kind : (k : Kind) → (if names_sub k then part k i else refuse i) ≡ Ok (n, j) → (t : Token) × NamesSub n t × (i.rest ≡ t ∷ j.rest)
+    by_kind kind.Name h = (token.Name n, g.bare, name_sound i j n h)
+    by_kind kind.Number h = absurd cc
+    by_kind kind.Text h = (token.Text n, g.in_quotes, text_sound i j n h)
+    by_kind kind.Mark h = absurd cc
+    by_kind kind.End h = absurd cc
 
 -- ---- expressions without brackets
 
-ranged_sound : {A : Type 0} (o : Option A) (stand_in a : A) (digits : List ℕ) (i j : Input) → ranged o stand_in digits i ≡ Some (a, j) → i.rest ≡ j.rest
+ranged_sound : {A : Type 0} (o : Option A) (stand_in a : A) (digits : List ℕ) (i j : Input) → ranged o stand_in digits i ≡ Ok (a, j) → i.rest ≡ j.rest
 unfolding exceeded
-ranged_sound (Some x) stand_in a digits i j h = rest_of i j (same_some x a i j h).1
-ranged_sound None stand_in a digits i j h = rest_of (exceeded digits i) j (same_some stand_in a (exceeded digits i) j h).1
+ranged_sound (Some x) stand_in a digits i j h = rest_of i j (same_read x a i j h).1
+ranged_sound None stand_in a digits i j h = rest_of (exceeded digits i) j (same_read stand_in a (exceeded digits i) j h).1
 
-pub variable_sound : (i j : Input) (n : List ℕ) → variable i ≡ Some (n, j) → i.rest ≡ token.Name n ∷ j.rest
+pub variable_sound : (i j : Input) (n : List ℕ) → variable i ≡ Ok (n, j) → i.rest ≡ token.Name n ∷ j.rest
 unfolding variable named
 variable_sound i j n h =
-    let q = bind_ok (name i) (λ m. noted (named m) >> pure m) (n, j) h in
-    let s = same_some q.0 n (named q.0 q.1) j q.3 in
+    let q = bind_ok (part kind.Name i) (λ m. noted (named m) >> pure m) (n, j) h in
+    let s = same_read q.0 n (named q.0 q.1) j q.3 in
     name_sound i q.1 q.0 q.2 ∙ ap (λ (m : List ℕ). token.Name m ∷ q.1.rest) s.0 ∙ ap (λ (l : List Token). token.Name n ∷ l) (rest_of (named q.0 q.1) j s.1)
 
-whole_number_sound : (i j : Input) (n : Number) → whole_number i ≡ Some (n, j) → (t : List ℕ) × (i.rest ≡ token.Number t ∷ j.rest)
+whole_number_sound : (i j : Input) (n : Number) → whole_number i ≡ Ok (n, j) → (t : List ℕ) × (i.rest ≡ token.Number t ∷ j.rest)
 unfolding whole_number
 whole_number_sound i j n h =
-    let q = bind_ok (number i) (λ t. ranged (number_of t) _ t) (n, j) h in
+    let q = bind_ok (part kind.Number i) (λ t. ranged (number_of t) _ t) (n, j) h in
     (q.0, number_sound i q.1 q.0 q.2 ∙ ap (λ (l : List Token). token.Number q.0 ∷ l) (ranged_sound (number_of q.0) _ n q.0 q.1 j q.3))
 
-pub argument_sound : (i j : Input) (k : ℕ) → argument i ≡ Some (k, j) → (t : List ℕ) × (i.rest ≡ token.Name (codes "arg") ∷ token.Number t ∷ j.rest)
+pub argument_sound : (i j : Input) (k : ℕ) → argument i ≡ Ok (k, j) → (t : List ℕ) × (i.rest ≡ token.Name (codes "arg") ∷ token.Number t ∷ j.rest)
 unfolding argument after_word next
 argument_sound i j k h = by_arg (sees_word (codes "arg") i) refl h
   where
-    by_arg : (b : Bool) → sees_word (codes "arg") i ≡ b → (if b then (number >>= λ t. ranged (argument_of t) 0 t) else refuse) (if b then next i else i) ≡ Some (k, j)
+    by_arg : (b : Bool) → sees_word (codes "arg") i ≡ b → (if b then (part kind.Number >>= λ t. ranged (argument_of t) 0 t) else refuse) (if b then next i else i) ≡ Ok (k, j)
         → (t : List ℕ) × (i.rest ≡ token.Name (codes "arg") ∷ token.Number t ∷ j.rest)
     by_arg true e h =
-        let q = bind_ok (number (next i)) (λ t. ranged (argument_of t) 0 t) (k, j) h in (
+        let q = bind_ok (part kind.Number (next i)) (λ t. ranged (argument_of t) 0 t) (k, j) h in (
           q.0,
           behind (token.Name (codes "arg")) i.rest (token.Number q.0 ∷ j.rest) (word_sound (codes "arg") i e)
               (number_sound (next i) q.1 q.0 q.2 ∙ ap (λ (l : List Token). token.Number q.0 ∷ l) (ranged_sound (argument_of q.0) 0 k q.0 q.1 j q.3)),
@@ -187,11 +193,11 @@ Standing s i j = (e : Form) × Stands s e i.rest j.rest
 pub stands_at : (s : Bool) (e : Form) (ts ts' us : List Token) → ts ≡ ts' → Stands s e ts' us → Stands s e ts us
 stands_at s e ts ts' us eq x = subst (λ (l : List Token). Stands s e l us) (sym eq) x
 
-by_name_sound : (s : Bool) (i j : Input) (v : Expr) → by_name s i ≡ Some (v, j) → Standing s i j
+by_name_sound : (s : Bool) (i j : Input) (v : Expr) → by_name s i ≡ Ok (v, j) → Standing s i j
 unfolding by_name after_word next sees_word
 by_name_sound s i j v h = by_undef (sees_word (codes "undef") i) refl h
   where
-    by_place : (s : Bool) → sees_word (codes "undef") i ≡ false → (if s then p.Argument <$> argument else p.Variable <$> variable) i ≡ Some (v, j) → Standing s i j
+    by_place : (s : Bool) → sees_word (codes "undef") i ≡ false → (if s then p.Argument <$> argument else p.Variable <$> variable) i ≡ Ok (v, j) → Standing s i j
     by_place true e h =
         let q = map_ok p.Argument (argument i) v j h in
         let a = argument_sound i j q.0 q.1 in
@@ -202,13 +208,13 @@ by_name_sound s i j v h = by_undef (sees_word (codes "undef") i) refl h
         let u : bytes_eq q.0 (codes "undef") ≡ false = rw r at e in
         (f.Variable q.0, stands_at false (f.Variable q.0) i.rest (token.Name q.0 ∷ j.rest) j.rest r (g.variable u))
 
-    by_undef : (b : Bool) → sees_word (codes "undef") i ≡ b → (if b then pure p.Undef else (if s then p.Argument <$> argument else p.Variable <$> variable)) (if b then next i else i) ≡ Some (v, j) → Standing s i j
+    by_undef : (b : Bool) → sees_word (codes "undef") i ≡ b → (if b then pure p.Undef else (if s then p.Argument <$> argument else p.Variable <$> variable)) (if b then next i else i) ≡ Ok (v, j) → Standing s i j
     by_undef true e h =
-        let r = behind (token.Name (codes "undef")) i.rest j.rest (word_sound (codes "undef") i e) (rest_of (next i) j (same_some p.Undef v (next i) j h).1) in
+        let r = behind (token.Name (codes "undef")) i.rest j.rest (word_sound (codes "undef") i e) (rest_of (next i) j (same_read p.Undef v (next i) j h).1) in
         (f.Undef, stands_at s f.Undef i.rest (token.Name (codes "undef") ∷ j.rest) j.rest r g.undef)
     by_undef false e h = by_place s e h
 
-reference_sound : (s : Bool) (i j : Input) (v : Expr) → reference s i ≡ Some (v, j) → Standing s i j
+reference_sound : (s : Bool) (i j : Input) (v : Expr) → reference s i ≡ Ok (v, j) → Standing s i j
 unfolding reference
 reference_sound true i j v h = absurd cc
 reference_sound false i j v h =
@@ -217,18 +223,18 @@ reference_sound false i j v h =
     let r = expect_sound mark.Backslash i q.1 q.0 q.2 ∙ ap (λ (l : List Token). token.Mark mark.Backslash ∷ l) (variable_sound q.1 j q'.0 q'.1) in
     (f.Reference q'.0, stands_at false (f.Reference q'.0) i.rest (token.Mark mark.Backslash ∷ token.Name q'.0 ∷ j.rest) j.rest r g.reference)
 
-pub simple_sound : (s : Bool) (i j : Input) (v : Expr) → simple s i ≡ Some (v, j) → Standing s i j
+pub simple_sound : (s : Bool) (i j : Input) (v : Expr) → simple s i ≡ Ok (v, j) → Standing s i j
 unfolding simple
 simple_sound s i j v h = by_kind (kind_of i) h
   where
-    by_kind : (k : Kind) → simple_by s k i ≡ Some (v, j) → Standing s i j
+    by_kind : (k : Kind) → simple_by s k i ≡ Ok (v, j) → Standing s i j
     by_kind kind.Name h = by_name_sound s i j v h
     by_kind kind.Number h =
         let q = map_ok p.Num (whole_number i) v j h in
         let r = whole_number_sound i j q.0 q.1 in
         (f.Number r.0, stands_at s (f.Number r.0) i.rest (token.Number r.0 ∷ j.rest) j.rest r.1 g.number)
     by_kind kind.Text h =
-        let q = map_ok p.Text (text i) v j h in
+        let q = map_ok p.Text (part kind.Text i) v j h in
         (f.Text q.0, stands_at s (f.Text q.0) i.rest (token.Text q.0 ∷ j.rest) j.rest (text_sound i j q.0 q.1) g.text)
     by_kind kind.Mark h = reference_sound s i j v h
     by_kind kind.End h = absurd cc

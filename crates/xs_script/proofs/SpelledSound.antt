@@ -1,9 +1,9 @@
 -- What bytes are cut into is spelled by them.
-use Rattle.std.proofs.Common.{◌≡◌, ℕ, zero, suc, ◌+◌, ◌-◌, ◌*◌, ◌≤◌, ◌==◌, Bool, true, false, ◌&&◌, not, cond, List, [], ◌∷◌, ◌++◌, length, length-drop, take, drop, Option, Some, None, refl, ap, sym, ◌∙◌, subst, arith, append_assoc, zero-add, if◌then◌else◌}
-use Rattle.std.proofs.lemmas.Bool.{eqb-true}
-use Rattle.std.proofs.lemmas.List.{append-nil, take-append-drop}
-use Rattle.std.specs.List.{list_all, prefix_len}
-use Rattle.xs_script.specs.declared.lexing.PathPlace.TheVariants as path
+use Rattle.std.proofs.Common.{◌≡◌, ℕ, zero, suc, ◌+◌, ◌-◌, ◌*◌, ◌≤◌, ◌==◌, Bool, true, false, ◌&&◌, not, List, [], ◌∷◌, ◌++◌, length, length-drop, drop, Option, Some, None, Result, Ok, Err, refl, ap, sym, ◌∙◌, subst, arith, append_assoc, if◌then◌else◌}
+use Rattle.std.proofs.lemmas.Bool.{and_parts, eqb-true}
+use Rattle.std.proofs.lemmas.List.{append-nil, length-append}
+use Rattle.std.proofs.Math.Seq.{drop-append_seam}
+use Rattle.std.specs.List.{list_all}
 use Rattle.xs_script.specs.declared.lexing.TextPlace.{TextPlace}
 use Rattle.xs_script.specs.declared.lexing.TextPlace.TheVariants as place
 use Rattle.xs_script.specs.declared.token.Front.{Front}
@@ -12,117 +12,61 @@ use Rattle.xs_script.specs.declared.token.Mark.{Mark}
 use Rattle.xs_script.specs.declared.token.Mark.TheVariants as mark
 use Rattle.xs_script.specs.declared.token.Token.{Token}
 use Rattle.xs_script.specs.declared.token.Token.TheVariants as token
-use Rattle.xs_base.specs.Scanning.{begins_word, is_blank, is_digit, is_word_byte}
-use Rattle.xs_script.specs.Lex.{is_in_path, begins_with, hex_value, escape_value, is_path, name_front, name_of_len, number_front, number_of_len, text_front, mark_front, single, alone, front_of, by_front, with_front, tokens_from, tokens_of, on_step, text_step, plainly, high_digit, low_digit, closes, listed}
+use Rattle.xs_base.specs.Names.{is_qualified_name}
+use Rattle.xs_base.specs.Readers.{head_is}
+use Rattle.xs_base.specs.Runs.{behind, belongs, front_of}
+use Rattle.xs_base.specs.Scanning.{begins_word, is_blank, is_digit}
+use Rattle.xs_base.specs.declared.runs.ByteClass.TheVariants.{Digit, Name}
+use Rattle.xs_base.proofs.FrontRuns.{front_behind, front_belongs, behind_stops}
+use Rattle.xs_base.proofs.Qualified.{qualified_joined}
+use Rattle.xs_script.specs.Fronts.{with_front}
+use Rattle.xs_script.specs.Input.{NoReading, mark_byte}
+use Rattle.xs_script.specs.Lex.{hex_value, escape_value, name_before, name_front, number_front, signed_number, text_front, mark_front, single, alone, first_part, by_front, tokens_from, tokens_of, on_step, text_step, plainly, high_digit, low_digit, closes, listed}
 use Rattle.xs_script.specs.Spelling as sp
-use Rattle.xs_script.specs.Spelling.{IsIdentifier, IsPath, IsDigits, StandFor, Spelled, first_is, mark_text, goes_on}
+use Rattle.xs_script.specs.Spelling.{StandFor, Spelled, mark_text}
 use Rattle.xs_script.proofs.LexSteps.{tokens_from-skip}
-use Rattle.xs_script.proofs.SpelledDone.{and_first, and_second, list_all-append, drop_text, suc_not_zero}
 
--- ---- names
+-- ---- one part
 
-identifier_more : (acc : List ℕ) (b : ℕ) → IsIdentifier acc → is_word_byte b ≡ true → IsIdentifier (acc ++ b ∷ [])
-identifier_more [] b i w = absurd i
-identifier_more (c ∷ acc) b i w = (i.0, list_all-append is_word_byte acc (b ∷ []) i.1 (rw w refl))
-
-mutual
-  within_sound : (acc bs : List ℕ) → IsIdentifier acc → is_path path.Within bs ≡ true → IsPath (acc ++ bs)
-  within_sound acc [] i h = rw (append-nil acc) (sp.one acc i)
-  within_sound acc (b ∷ bs) i h = by_colon (colon_sound acc bs i) (λ w. within_sound (acc ++ b ∷ []) bs (identifier_more acc b i w)) (b == 58) refl h
-    where
-      by_colon : (is_path path.Colon bs ≡ true → IsPath (acc ++ 58 ∷ bs)) → (is_word_byte b ≡ true → is_path path.Within bs ≡ true → IsPath ((acc ++ b ∷ []) ++ bs))
-          → (c : Bool) → (b == 58) ≡ c → (if c then is_path path.Colon bs else (is_word_byte b && is_path path.Within bs)) ≡ true → IsPath (acc ++ b ∷ bs)
-      by_colon colon more true e h = subst (λ k. IsPath (acc ++ k ∷ bs)) (sym (eqb-true b 58 e)) (colon h)
-      by_colon colon more false e h = subst (λ l. IsPath l) (append_assoc acc (b ∷ []) bs) (more (and_first (is_word_byte b) (is_path path.Within bs) h) (and_second (is_word_byte b) (is_path path.Within bs) h))
-
-  colon_sound : (acc bs : List ℕ) → IsIdentifier acc → is_path path.Colon bs ≡ true → IsPath (acc ++ 58 ∷ bs)
-  colon_sound acc [] i h = absurd cc
-  colon_sound acc (b ∷ bs) i h = subst (λ k. IsPath (acc ++ 58 ∷ k ∷ bs)) (sym (eqb-true b 58 (and_first (b == 58) (is_path path.First bs) h))) (sp.joined acc i (first_sound bs (and_second (b == 58) (is_path path.First bs) h)))
-
-  first_sound : (bs : List ℕ) → is_path path.First bs ≡ true → IsPath bs
-  first_sound [] h = absurd cc
-  first_sound (b ∷ bs) h = within_sound (b ∷ []) bs (and_first (begins_word b) (is_path path.Within bs) h, refl) (and_second (begins_word b) (is_path path.Within bs) h)
-
--- ---- runs
-
-stops_at : (p : ℕ → Bool) (xs : List ℕ) → first_is p (drop (prefix_len p xs) xs) ≡ false
-stops_at p [] = refl
-stops_at p (x ∷ xs) = by_test (stops_at p xs) (p x) refl
-  where
-    by_test : first_is p (drop (prefix_len p xs) xs) ≡ false → (c : Bool) → p x ≡ c → first_is p (drop (cond c (1 + prefix_len p xs) 0) (x ∷ xs)) ≡ false
-    by_test again true e = let more : 1 + prefix_len p xs ≡ suc (prefix_len p xs) = omega arith in rw more again
-    by_test again false e = e
-
-taken_all : (p : ℕ → Bool) (xs : List ℕ) → list_all p (take (prefix_len p xs) xs) ≡ true
-taken_all p [] = refl
-taken_all p (x ∷ xs) = by_test (taken_all p xs) (p x) refl
-  where
-    by_test : list_all p (take (prefix_len p xs) xs) ≡ true → (c : Bool) → p x ≡ c → list_all p (take (cond c (1 + prefix_len p xs) 0) (x ∷ xs)) ≡ true
-    by_test again true e = let more : 1 + prefix_len p xs ≡ suc (prefix_len p xs) = omega arith in rw (more, e) again
-    by_test again false e = refl
-
-front_ok : (t : Token) (r : Option (List Token)) (ts : List Token) → with_front (t ∷ []) r ≡ Some ts → (us : List Token) × (r ≡ Some us) × (ts ≡ t ∷ us)
-front_ok t (Some us) ts h = (us, refl, let e : t ∷ us ≡ ts = cc in sym e)
-front_ok t None ts h = absurd cc
-
-not_false : (b : Bool) → not b ≡ true → b ≡ false
-not_false true h = absurd cc
-not_false false h = refl
+front_ok : (t : Token) (r : Result (List Token) NoReading) (ts : List Token) → with_front (t ∷ []) r ≡ Ok ts → (us : List Token) × (r ≡ Ok us) × (ts ≡ t ∷ us)
+front_ok t (Ok us) ts h = (us, refl, let e : t ∷ us ≡ ts = cc in sym e)
+front_ok t (Err e) ts h = absurd cc
 
 -- the parts behind the front are spelled by the bytes behind it
 abbrev Again : List ℕ → Type 0
-Again bs = (len : ℕ) (ts : List Token) → tokens_from len bs ≡ Some ts → Spelled ts (drop len bs)
+Again bs = (len : ℕ) (ts : List Token) → tokens_from len bs ≡ Ok ts → Spelled ts (drop len bs)
 
-abbrev behind : List ℕ → ℕ → Option (List Token)
-behind bs skip = tokens_from skip bs
+abbrev parts_behind : List ℕ → ℕ → Result (List Token) NoReading
+parts_behind bs skip = tokens_from skip bs
 
-spelled_as : (ts us : List Token) (t : Token) (l l' : List ℕ) → ts ≡ t ∷ us → l' ≡ l → Spelled (t ∷ us) l' → Spelled ts l
-spelled_as ts us t l l' e e' x = subst (λ k. Spelled ts k) e' (subst (λ k. Spelled k l') (sym e) x)
+-- a part in front of bytes, and parts that are spelled by the bytes behind it
+part_sound : (c : ℕ) (k rest : List ℕ) (b : ℕ) (bs : List ℕ) (t : Token) (ts : List Token) → Again bs → c ∷ k ++ rest ≡ b ∷ bs → by_front (front.Piece t (suc (length k))) (parts_behind bs) ≡ Ok ts
+    → ((us : List Token) → Spelled us rest → Spelled (t ∷ us) (c ∷ k ++ rest)) → Spelled ts (b ∷ bs)
+part_sound c k rest b bs t ts again e h spelled =
+    let less : suc (length k) - 1 ≡ length k = omega arith in
+    let q = front_ok t (tokens_from (suc (length k) - 1) bs) ts h in
+    let x = again (length k) q.0 (ap (λ n. tokens_from n bs) (sym less) ∙ q.1) in
+    let tails : k ++ rest ≡ bs = cc in
+    let behind_k : drop (length k) bs ≡ rest = ap (drop (length k)) (sym tails) ∙ drop-append_seam k rest in
+    subst (λ l. Spelled ts l) e (subst (λ l. Spelled l (c ∷ k ++ rest)) (sym q.2) (spelled q.0 (subst (λ l. Spelled q.0 l) behind_k x)))
 
-less_one : (k : ℕ) → suc k - 1 ≡ k
-less_one k = omega arith
-
-name_sound : (b : ℕ) (bs : List ℕ) (ts : List Token) → Again bs → (len : ℕ) → first_is is_in_path (drop len (b ∷ bs)) ≡ false → by_front (name_of_len len (b ∷ bs)) (behind bs) ≡ Some ts → Spelled ts (b ∷ bs)
-name_sound b bs ts again zero stop h = absurd cc
-name_sound b bs ts again (suc k) stop h = by_path (is_path path.First (b ∷ take k bs)) (begins_with 45 (drop k bs)) refl refl h
+name_sound : (n rest : List ℕ) (b : ℕ) (bs : List ℕ) (ts : List Token) → Again bs → n ++ rest ≡ b ∷ bs → head_is (belongs Name) rest ≡ false → by_front (name_before n rest) (parts_behind bs) ≡ Ok ts → Spelled ts (b ∷ bs)
+name_sound [] rest b bs ts again e stop h = absurd cc
+name_sound (c ∷ k) rest b bs ts again e stop h = by_tests (is_qualified_name (c ∷ k)) (head_is (λ d. d == 45) rest) refl refl h
   where
-    by_path : (c d : Bool) → is_path path.First (b ∷ take k bs) ≡ c → begins_with 45 (drop k bs) ≡ d → by_front (if c && not d then front.Piece (token.Name (b ∷ take k bs)) (suc k) else front.Nothing) (behind bs) ≡ Some ts → Spelled ts (b ∷ bs)
-    by_path false d e e' h = absurd cc
-    by_path true true e e' h = absurd cc
-    by_path true false e e' h =
-        let q = front_ok (token.Name (b ∷ take k bs)) (tokens_from (suc k - 1) bs) ts h in
-        let x = again k q.0 (ap (λ n. tokens_from n bs) (sym (less_one k)) ∙ q.1) in
-        spelled_as ts q.0 (token.Name (b ∷ take k bs)) (b ∷ bs) (b ∷ take k bs ++ drop k bs) q.2 (ap (λ (l : List ℕ). b ∷ l) (take-append-drop k bs)) (sp.name (first_sound (b ∷ take k bs) e) stop e' x)
+    by_tests : (q d : Bool) → is_qualified_name (c ∷ k) ≡ q → head_is (λ d. d == 45) rest ≡ d → by_front (if q && not d then front.Piece (token.Name (c ∷ k)) (suc (length k)) else front.Nothing) (parts_behind bs) ≡ Ok ts → Spelled ts (b ∷ bs)
+    by_tests false d is sign h = absurd cc
+    by_tests true true is sign h = absurd cc
+    by_tests true false is sign h = part_sound c k rest b bs (token.Name (c ∷ k)) ts again e h (λ us x. sp.name (qualified_joined (c ∷ k) is) stop sign x)
 
-number_sound : (b : ℕ) (bs : List ℕ) (ts : List Token) → Again bs → (len : ℕ) → list_all is_digit (take len (b ∷ bs)) ≡ true → first_is is_digit (drop len (b ∷ bs)) ≡ false → by_front (number_of_len 0 len (b ∷ bs)) (behind bs) ≡ Some ts → Spelled ts (b ∷ bs)
-number_sound b bs ts again zero all stop h = absurd cc
-number_sound b bs ts again (suc k) all stop h =
-    let whole : by_front (front.Piece (token.Number (take (suc k) (b ∷ bs))) (suc k)) (behind bs) ≡ Some ts = rw (suc_not_zero k, zero-add (suc k)) at h in
-    let q = front_ok (token.Number (b ∷ take k bs)) (tokens_from (suc k - 1) bs) ts whole in
-    let x = again k q.0 (ap (λ n. tokens_from n bs) (sym (less_one k)) ∙ q.1) in
-    spelled_as ts q.0 (token.Number (b ∷ take k bs)) (b ∷ bs) (b ∷ take k bs ++ drop k bs) q.2 (ap (λ (l : List ℕ). b ∷ l) (take-append-drop k bs))
-    (sp.number (and_first (is_digit b) (list_all is_digit (take k bs)) all, and_second (is_digit b) (list_all is_digit (take k bs)) all) stop x)
+number_sound : (ds rest : List ℕ) (b : ℕ) (bs : List ℕ) (ts : List Token) → Again bs → ds ++ rest ≡ b ∷ bs → list_all is_digit ds ≡ true → head_is is_digit rest ≡ false → by_front (signed_number [] ds) (parts_behind bs) ≡ Ok ts → Spelled ts (b ∷ bs)
+number_sound [] rest b bs ts again e all stop h = absurd cc
+number_sound (d ∷ ds) rest b bs ts again e all stop h = part_sound d ds rest b bs (token.Number (d ∷ ds)) ts again e h (λ us x. sp.number {ds = d ∷ ds} all stop x)
 
-some_digits : (k : ℕ) (bs : List ℕ) → list_all is_digit (take (suc k) bs) ≡ true → suc k ≤ length bs → IsDigits (take (suc k) bs)
-some_digits k [] h few = absurd (omega arith)
-some_digits k (d ∷ bs) h few = (and_first (is_digit d) (list_all is_digit (take k bs)) h, and_second (is_digit d) (list_all is_digit (take k bs)) h)
-
-prefix_few : (p : ℕ → Bool) (xs : List ℕ) → prefix_len p xs ≤ length xs
-prefix_few p [] = omega arith
-prefix_few p (x ∷ xs) = by_test (prefix_few p xs) (p x)
-  where
-    by_test : prefix_len p xs ≤ length xs → (c : Bool) → cond c (1 + prefix_len p xs) 0 ≤ length (x ∷ xs)
-    by_test again true = omega arith
-    by_test again false = omega arith
-
-negative_sound : (bs : List ℕ) (ts : List Token) → Again bs → (len : ℕ) → list_all is_digit (take len bs) ≡ true → len ≤ length bs → first_is is_digit (drop len bs) ≡ false → by_front (number_of_len 1 len (45 ∷ bs)) (behind bs) ≡ Some ts → Spelled ts (45 ∷ bs)
-negative_sound bs ts again zero all few stop h = absurd cc
-negative_sound bs ts again (suc k) all few stop h =
-    let sum : 1 + suc k ≡ suc (suc k) = omega arith in
-    let whole : by_front (front.Piece (token.Number (take (suc (suc k)) (45 ∷ bs))) (suc (suc k))) (behind bs) ≡ Some ts = rw (suc_not_zero k, sum) at h in
-    let q = front_ok (token.Number (45 ∷ take (suc k) bs)) (tokens_from (suc (suc k) - 1) bs) ts whole in
-    let x = again (suc k) q.0 (ap (λ n. tokens_from n bs) (sym (less_one (suc k))) ∙ q.1) in
-    spelled_as ts q.0 (token.Number (45 ∷ take (suc k) bs)) (45 ∷ bs) (45 ∷ take (suc k) bs ++ drop (suc k) bs) q.2 (ap (λ (l : List ℕ). 45 ∷ l) (take-append-drop (suc k) bs)) (sp.negative (some_digits k bs all few) stop x)
+negative_sound : (ds rest bs : List ℕ) (ts : List Token) → Again bs → ds ++ rest ≡ bs → list_all is_digit ds ≡ true → head_is is_digit rest ≡ false → by_front (signed_number (45 ∷ []) ds) (parts_behind bs) ≡ Ok ts → Spelled ts (45 ∷ bs)
+negative_sound [] rest bs ts again e all stop h = absurd cc
+negative_sound (d ∷ ds) rest bs ts again e all stop h =
+    part_sound 45 (d ∷ ds) rest 45 bs (token.Number (45 ∷ d ∷ ds)) ts again (ap (λ (l : List ℕ). 45 ∷ l) e) h (λ us x. sp.negative {ds = d ∷ ds} all stop x)
 
 -- ---- texts
 
@@ -224,16 +168,15 @@ no_blank (b ∷ bs) content n p h = by_close (λ q more. no_blank bs (content ++
     by_close again false None h = cc
     by_close again false (Some next) h = again next.0 (listed next.1) h
 
-text_sound : (bs : List ℕ) (ts : List Token) → Again bs → (fr : Front) → text_front place.Plain [] 1 bs ≡ fr → by_front fr (behind bs) ≡ Some ts → Spelled ts (34 ∷ bs)
+text_sound : (bs : List ℕ) (ts : List Token) → Again bs → (fr : Front) → text_front place.Plain [] 1 bs ≡ fr → by_front fr (parts_behind bs) ≡ Ok ts → Spelled ts (34 ∷ bs)
 text_sound bs ts again front.Nothing e h = absurd cc
 text_sound bs ts again front.Blank e h = absurd (no_blank bs [] 1 place.Plain e)
 text_sound bs ts again (front.Piece t len) e h =
     let w = plain_sound bs [] 1 t len e in
-    let q = front_ok t (tokens_from (len - 1) bs) ts h in
-    let at : len - 1 ≡ length w.0 + 1 = omega (arith, w.6) in
-    let x = again (length w.0 + 1) q.0 (ap (λ n. tokens_from n bs) (sym at) ∙ q.1) in
-    let rest : drop (length w.0 + 1) bs ≡ w.2 = ap (drop (length w.0 + 1)) w.3 ∙ drop_text w.0 w.2 in
-    spelled_as ts q.0 (token.Text w.1) (34 ∷ bs) (34 ∷ w.0 ++ 34 ∷ w.2) (q.2 ∙ ap (λ (k : Token). k ∷ q.0) w.5) (ap (λ (l : List ℕ). 34 ∷ l) (sym w.3)) (sp.text w.4 (subst (λ l. Spelled q.0 l) rest x))
+    let size : len ≡ suc (length (w.0 ++ 34 ∷ [])) = omega (arith, w.6, length-append w.0 (34 ∷ [])) in
+    let split = append_assoc w.0 (34 ∷ []) w.2 in
+    part_sound 34 (w.0 ++ 34 ∷ []) w.2 34 bs t ts again (ap (λ (l : List ℕ). 34 ∷ l) (split ∙ sym w.3)) (subst (λ n. by_front (front.Piece t n) (parts_behind bs) ≡ Ok ts) size h)
+    (λ us x. subst (λ (k : Token). Spelled (k ∷ us) (34 ∷ (w.0 ++ 34 ∷ []) ++ w.2)) (sym w.5) (subst (λ (l : List ℕ). Spelled (token.Text w.1 ∷ us) (34 ∷ l)) (sym split) (sp.text w.4 x)))
 
 -- ---- marks
 
@@ -241,10 +184,14 @@ if_some : (c : Bool) (m m' : Mark) (rest : Option Mark) (P : Mark → Type 0) �
 if_some true m m' rest P here there h = let e : m ≡ m' = cc in subst P e (here refl)
 if_some false m m' rest P here there h = there h
 
-single_text : (b : ℕ) (m : Mark) → single b ≡ Some m → mark_text m ≡ b ∷ []
+-- a mark of this byte alone
+abbrev Alone : ℕ → Mark → Type 0
+Alone b m = (mark_text m ≡ b ∷ []) × (mark_byte m ≡ b)
+
+single_text : (b : ℕ) (m : Mark) → single b ≡ Some m → Alone b m
 single_text b m h =
-    let P : Mark → Type 0 = λ n. mark_text n ≡ b ∷ [] in
-    let is = λ (k : ℕ) (e : (b == k) ≡ true). ap (λ (x : ℕ). x ∷ []) (sym (eqb-true b k e)) in
+    let P : Mark → Type 0 = Alone b in
+    let is : (k : ℕ) → (b == k) ≡ true → (k ∷ [] ≡ b ∷ []) × (k ≡ b) = λ k e. (ap (λ (x : ℕ). x ∷ []) (sym (eqb-true b k e)), sym (eqb-true b k e)) in
     if_some (b == 61) mark.Equals m _ P (is 61) (
     if_some (b == 40) mark.OpenRound m _ P (is 40) (
     if_some (b == 41) mark.CloseRound m _ P (is 41) (
@@ -256,71 +203,54 @@ single_text b m h =
     if_some (b == 59) mark.Semicolon m _ P (is 59) (
     if_some (b == 92) mark.Backslash m None P (is 92) (λ h. absurd cc)))))))))) h
 
-ends_here : (m : Mark) (b : ℕ) (bs : List ℕ) → mark_text m ≡ b ∷ [] → (b == 61 && begins_with 62 bs) ≡ false → goes_on m bs ≡ false
-ends_here mark.Equals b bs e h = let is : b ≡ 61 = cc in subst (λ k. (k == 61 && begins_with 62 bs) ≡ false) is h
-ends_here mark.Arrow b bs e h = refl
-ends_here mark.OpenRound b bs e h = refl
-ends_here mark.CloseRound b bs e h = refl
-ends_here mark.OpenSquare b bs e h = refl
-ends_here mark.CloseSquare b bs e h = refl
-ends_here mark.OpenCurly b bs e h = refl
-ends_here mark.CloseCurly b bs e h = refl
-ends_here mark.Comma b bs e h = refl
-ends_here mark.Semicolon b bs e h = refl
-ends_here mark.Backslash b bs e h = refl
-
-arrow_sound : (b : ℕ) (bs : List ℕ) (ts : List Token) → Again bs → (b == 61 && begins_with 62 bs) ≡ true → with_front (token.Mark mark.Arrow ∷ []) (tokens_from 1 bs) ≡ Some ts → Spelled ts (b ∷ bs)
-arrow_sound b [] ts again e h = let no = and_second (b == 61) false e in absurd cc
+arrow_sound : (b : ℕ) (bs : List ℕ) (ts : List Token) → Again bs → (b == 61 && head_is (λ c. c == 62) bs) ≡ true → by_front (front.Piece (token.Mark mark.Arrow) 2) (parts_behind bs) ≡ Ok ts → Spelled ts (b ∷ bs)
+arrow_sound b [] ts again e h = let no = (and_parts (b == 61) false e).1 in absurd cc
 arrow_sound b (c ∷ bs) ts again e h =
-    let q = front_ok (token.Mark mark.Arrow) (tokens_from 1 (c ∷ bs)) ts h in
-    let x = again 1 q.0 q.1 in
-    let two : 61 ∷ 62 ∷ bs ≡ b ∷ c ∷ bs = ap (λ (k : ℕ). k ∷ 62 ∷ bs) (sym (eqb-true b 61 (and_first (b == 61) (c == 62) e))) ∙ ap (λ (k : ℕ). b ∷ k ∷ bs) (sym (eqb-true c 62 (and_second (b == 61) (c == 62) e))) in
-    spelled_as ts q.0 (token.Mark mark.Arrow) (b ∷ c ∷ bs) (61 ∷ 62 ∷ bs) q.2 two (sp.mark_stands mark.Arrow refl x)
+    let p = and_parts (b == 61) (c == 62) e in
+    let two : 61 ∷ 62 ∷ bs ≡ b ∷ c ∷ bs = ap (λ (k : ℕ). k ∷ 62 ∷ bs) (sym (eqb-true b 61 p.0)) ∙ ap (λ (k : ℕ). b ∷ k ∷ bs) (sym (eqb-true c 62 p.1)) in
+    part_sound 61 (62 ∷ []) bs b (c ∷ bs) (token.Mark mark.Arrow) ts again two h (λ us x. sp.mark_stands mark.Arrow refl x)
 
-mark_sound : (b : ℕ) (bs : List ℕ) (ts : List Token) → Again bs → by_front (mark_front b bs) (behind bs) ≡ Some ts → Spelled ts (b ∷ bs)
-mark_sound b bs ts again h = by_arrow (b == 61 && begins_with 62 bs) refl h
+mark_sound : (b : ℕ) (bs : List ℕ) (ts : List Token) → Again bs → by_front (mark_front b bs) (parts_behind bs) ≡ Ok ts → Spelled ts (b ∷ bs)
+mark_sound b bs ts again h = by_arrow (b == 61 && head_is (λ c. c == 62) bs) refl h
   where
-    by_single : (b == 61 && begins_with 62 bs) ≡ false → (o : Option Mark) → single b ≡ o → by_front (alone o) (behind bs) ≡ Some ts → Spelled ts (b ∷ bs)
+    by_single : (b == 61 && head_is (λ c. c == 62) bs) ≡ false → (o : Option Mark) → single b ≡ o → by_front (alone o) (parts_behind bs) ≡ Ok ts → Spelled ts (b ∷ bs)
     by_single e None s h = absurd cc
     by_single e (Some m) s h =
-        let q = front_ok (token.Mark m) (tokens_from 0 bs) ts h in
-        let x = again 0 q.0 q.1 in
-        let text = single_text b m s in
-        spelled_as ts q.0 (token.Mark m) (b ∷ bs) (mark_text m ++ bs) q.2 (ap (λ (l : List ℕ). l ++ bs) text) (sp.mark_stands m (ends_here m b bs text e) x)
+        let one = single_text b m s in
+        let ends = subst (λ k. (k == 61 && head_is (λ c. c == 62) bs) ≡ false) (sym one.1) e in
+        part_sound b [] bs b bs (token.Mark m) ts again refl h (λ us x. subst (λ (l : List ℕ). Spelled (token.Mark m ∷ us) (l ++ bs)) one.0 (sp.mark_stands m ends x))
 
-    by_arrow : (c : Bool) → (b == 61 && begins_with 62 bs) ≡ c → by_front (if c then front.Piece (token.Mark mark.Arrow) 2 else alone (single b)) (behind bs) ≡ Some ts → Spelled ts (b ∷ bs)
+    by_arrow : (c : Bool) → (b == 61 && head_is (λ c. c == 62) bs) ≡ c → by_front (if c then front.Piece (token.Mark mark.Arrow) 2 else alone (single b)) (parts_behind bs) ≡ Ok ts → Spelled ts (b ∷ bs)
     by_arrow true e h = arrow_sound b bs ts again e h
     by_arrow false e h = by_single e (single b) refl h
 
 -- ---- lines
 
-byte_sound : (b : ℕ) (bs : List ℕ) (ts : List Token) → Again bs → by_front (front_of (b ∷ bs)) (behind bs) ≡ Some ts → Spelled ts (b ∷ bs)
-unfolding front_of
+byte_sound : (b : ℕ) (bs : List ℕ) (ts : List Token) → Again bs → by_front (first_part (b ∷ bs)) (parts_behind bs) ≡ Ok ts → Spelled ts (b ∷ bs)
+unfolding first_part
 byte_sound b bs ts again h = by_blank (is_blank b) refl h
   where
-    by_quote : (c : Bool) → (b == 34) ≡ c → by_front (if c then text_front place.Plain [] 1 bs else mark_front b bs) (behind bs) ≡ Some ts → Spelled ts (b ∷ bs)
+    by_quote : (c : Bool) → (b == 34) ≡ c → by_front (if c then text_front place.Plain [] 1 bs else mark_front b bs) (parts_behind bs) ≡ Ok ts → Spelled ts (b ∷ bs)
     by_quote true e h = subst (λ k. Spelled ts (k ∷ bs)) (sym (eqb-true b 34 e)) (text_sound bs ts again (text_front place.Plain [] 1 bs) refl h)
     by_quote false e h = mark_sound b bs ts again h
 
-    by_sign : (c : Bool) → (b == 45) ≡ c → by_front (if c then number_front 1 (b ∷ bs) else (if b == 34 then text_front place.Plain [] 1 bs else mark_front b bs)) (behind bs) ≡ Some ts → Spelled ts (b ∷ bs)
-    by_sign true e h =
-        let h' : by_front (number_of_len 1 (prefix_len is_digit bs) (45 ∷ bs)) (behind bs) ≡ Some ts = subst (λ k. by_front (number_of_len 1 (prefix_len is_digit bs) (k ∷ bs)) (behind bs) ≡ Some ts) (eqb-true b 45 e) h in
-        subst (λ k. Spelled ts (k ∷ bs)) (sym (eqb-true b 45 e)) (negative_sound bs ts again (prefix_len is_digit bs) (taken_all is_digit bs) (prefix_few is_digit bs) (stops_at is_digit bs) h')
+    by_sign : (c : Bool) → (b == 45) ≡ c → by_front (if c then number_front (45 ∷ []) bs else (if b == 34 then text_front place.Plain [] 1 bs else mark_front b bs)) (parts_behind bs) ≡ Ok ts → Spelled ts (b ∷ bs)
+    by_sign true e h = subst (λ k. Spelled ts (k ∷ bs)) (sym (eqb-true b 45 e)) (negative_sound (front_of Digit bs) (behind Digit bs) bs ts again (front_behind Digit bs) (front_belongs Digit bs) (behind_stops Digit bs) h)
     by_sign false e h = by_quote (b == 34) refl h
 
-    by_digit : (c : Bool) → is_digit b ≡ c → by_front (if c then number_front 0 (b ∷ bs) else (if b == 45 then number_front 1 (b ∷ bs) else (if b == 34 then text_front place.Plain [] 1 bs else mark_front b bs))) (behind bs) ≡ Some ts → Spelled ts (b ∷ bs)
-    by_digit true e h = number_sound b bs ts again (prefix_len is_digit (b ∷ bs)) (taken_all is_digit (b ∷ bs)) (stops_at is_digit (b ∷ bs)) h
+    by_digit : (c : Bool) → is_digit b ≡ c → by_front (if c then number_front [] (b ∷ bs) else (if b == 45 then number_front (45 ∷ []) bs else (if b == 34 then text_front place.Plain [] 1 bs else mark_front b bs))) (parts_behind bs) ≡ Ok ts → Spelled ts (b ∷ bs)
+    by_digit true e h = number_sound (front_of Digit (b ∷ bs)) (behind Digit (b ∷ bs)) b bs ts again (front_behind Digit (b ∷ bs)) (front_belongs Digit (b ∷ bs)) (behind_stops Digit (b ∷ bs)) h
     by_digit false e h = by_sign (b == 45) refl h
 
-    by_word : (c : Bool) → begins_word b ≡ c → by_front (if c then name_front (b ∷ bs) else (if is_digit b then number_front 0 (b ∷ bs) else (if b == 45 then number_front 1 (b ∷ bs) else (if b == 34 then text_front place.Plain [] 1 bs else mark_front b bs)))) (behind bs) ≡ Some ts → Spelled ts (b ∷ bs)
-    by_word true e h = name_sound b bs ts again (prefix_len is_in_path (b ∷ bs)) (stops_at is_in_path (b ∷ bs)) h
+    by_word : (c : Bool) → begins_word b ≡ c → by_front (if c then name_front (b ∷ bs) else (if is_digit b then number_front [] (b ∷ bs) else (if b == 45 then number_front (45 ∷ []) bs else (if b == 34 then text_front place.Plain [] 1 bs else mark_front b bs)))) (parts_behind bs) ≡ Ok ts → Spelled ts (b ∷ bs)
+    by_word true e h = name_sound (front_of Name (b ∷ bs)) (behind Name (b ∷ bs)) b bs ts again (front_behind Name (b ∷ bs)) (behind_stops Name (b ∷ bs)) h
     by_word false e h = by_digit (is_digit b) refl h
 
-    by_blank : (c : Bool) → is_blank b ≡ c → by_front (if c then front.Blank else (if begins_word b then name_front (b ∷ bs) else (if is_digit b then number_front 0 (b ∷ bs) else (if b == 45 then number_front 1 (b ∷ bs) else (if b == 34 then text_front place.Plain [] 1 bs else mark_front b bs))))) (behind bs) ≡ Some ts → Spelled ts (b ∷ bs)
+    by_blank : (c : Bool) → is_blank b ≡ c → by_front (if c then front.Blank else (if begins_word b then name_front (b ∷ bs) else (if is_digit b then number_front [] (b ∷ bs) else (if b == 45 then number_front (45 ∷ []) bs else (if b == 34 then text_front place.Plain [] 1 bs else mark_front b bs))))) (parts_behind bs) ≡ Ok ts → Spelled ts (b ∷ bs)
     by_blank true e h = sp.blank e (again 0 ts h)
     by_blank false e h = by_word (begins_word b) refl h
 
-lex_sound : (n : ℕ) (bs : List ℕ) (ts : List Token) → length bs ≤ n → tokens_from 0 bs ≡ Some ts → Spelled ts bs
+lex_sound : (n : ℕ) (bs : List ℕ) (ts : List Token) → length bs ≤ n → tokens_from 0 bs ≡ Ok ts → Spelled ts bs
 unfolding tokens_from
 lex_sound n [] ts few h = let e : [] ≡ ts = cc in subst (λ (l : List Token). Spelled l []) e sp.line_end
 lex_sound zero (b ∷ bs) ts few h = absurd (omega arith)
@@ -328,5 +258,5 @@ lex_sound (suc n) (b ∷ bs) ts few h =
     byte_sound b bs ts (λ len us e. lex_sound n (drop len bs) us (omega (arith, length-drop len bs)) (sym (tokens_from-skip len bs) ∙ e)) h
 
 -- parts that are read are spelled
-pub spelled_sound : (bs : List ℕ) (ts : List Token) → tokens_of bs ≡ Some ts → Spelled ts bs
+pub spelled_sound : (bs : List ℕ) (ts : List Token) → tokens_of bs ≡ Ok ts → Spelled ts bs
 spelled_sound bs ts h = lex_sound (length bs) bs ts (omega arith) h

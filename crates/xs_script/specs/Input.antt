@@ -1,6 +1,8 @@
 -- What a reader of a line reads from, and the steps that the rules of the grammar are made of.
-use Rattle.std.specs.Prelude.{◌≡◌, ℕ, Bool, false, ◌==◌, if◌then◌else◌, max, List, [], ◌∷◌, length, Option, Some, None, Result, Ok, Err}
+use Rattle.std.specs.Prelude.{◌≡◌, ℕ, Bool, true, false, ◌==◌, if◌then◌else◌, max, List, [], ◌∷◌, length, Option, Some, None, Result, Ok, Err}
 use Rattle.std.specs.Str.{bytes_eq}
+use Rattle.xs_base.specs.Readers as readers
+use Rattle.xs_base.specs.Readers.{head_is, tail}
 use Rattle.xs_script.specs.declared.token.Token.{Token}
 use Rattle.xs_script.specs.declared.token.Token.TheVariants as token
 use Rattle.xs_script.specs.declared.token.Mark.{Mark}
@@ -53,14 +55,6 @@ is_word word (token.Number text) = false
 is_word word (token.Text content) = false
 is_word word (token.Mark n) = false
 
-abbrev pub head_is : (Token → Bool) → List Token → Bool
-head_is p [] = false
-head_is p (t ∷ ts) = p t
-
-abbrev pub tail : List Token → List Token
-tail [] = []
-tail (t ∷ ts) = ts
-
 unfoldable pub sees : Mark → Input → Bool
 sees m i = head_is (is_mark m) i.rest
 
@@ -87,112 +81,86 @@ kind_of i = kind_at i.rest
 unfoldable pub left : Input → ℕ
 left i = length i.rest
 
--- ---- readers: a value and what is left, or no reading
+-- ---- readers of a line
+
+-- what is given where there is no reading
+abbrev pub NoReading : Type 0
+NoReading = Unit {0}
 
 abbrev pub Outcome : Type 0 → Type 0
-Outcome A = Option (A × Input)
+Outcome A = readers.Outcome Input NoReading A
 
 abbrev pub Reader : Type 0 → Type 0
-Reader A = Input → Outcome A
-
-abbrev pub and_then : {A B : Type 0} → Outcome A → (A → Reader B) → Outcome B
-and_then (Some p) f = f p.0 p.1
-and_then None f = None
-
-infixl 10 ◌>>=◌
-abbrev pub ◌>>=◌ : {A B : Type 0} → Reader A → (A → Reader B) → Reader B
-p >>= f = λ i. and_then (p i) f
-
-infixl 10 ◌>>◌
-abbrev pub ◌>>◌ : {A B : Type 0} → Reader A → Reader B → Reader B
-p >> q = p >>= (λ _. q)
-
-abbrev pub pure : {A : Type 0} → A → Reader A
-pure a = λ i. Some (a, i)
-
-infixr 11 ◌<$>◌
-abbrev pub ◌<$>◌ : {A B : Type 0} → (A → B) → Reader A → Reader B
-f <$> p = p >>= (λ x. pure (f x))
+Reader A = readers.Reader Input NoReading A
 
 abbrev pub refuse : {A : Type 0} → Reader A
-refuse = λ i. None
+refuse = λ i. Err tt
 
 abbrev pub peek : Reader Kind
-peek = λ i. Some (kind_of i, i)
+peek = λ i. Ok (kind_of i, i)
+
+-- passes over the next part where this is so
+abbrev pub past : Bool → Input → Input
+past b i = if b then next i else i
 
 unfoldable pub after : Mark → Input → Input
-after m i = if sees m i then next i else i
+after m i = past (sees m i) i
 
 -- takes this mark, if it comes next
 abbrev pub eat : Mark → Reader Bool
-eat m = λ i. Some (sees m i, after m i)
+eat m = λ i. Ok (sees m i, after m i)
 
 unfoldable pub expect : Mark → Reader (Unit {0})
-expect m = λ i. if sees m i then Some (tt, next i) else None
+expect m = λ i. if sees m i then Ok (tt, next i) else Err tt
 
 -- a fact of what is left
 abbrev pub told : Bool → Reader Bool
-told b = λ i. Some (b, i)
+told b = λ i. Ok (b, i)
 
 -- the line ends here
 abbrev pub ended : Kind → Reader (Unit {0})
-ended kind.End = λ i. Some (tt, i)
+ended kind.End = λ i. Ok (tt, i)
 ended kind.Name = refuse
 ended kind.Number = refuse
 ended kind.Text = refuse
 ended kind.Mark = refuse
 
 unfoldable pub after_word : List ℕ → Input → Input
-after_word word i = if sees_word word i then next i else i
+after_word word i = past (sees_word word i) i
 
 -- takes this word, if it comes next
 abbrev pub eat_word : List ℕ → Reader Bool
-eat_word word = λ i. Some (sees_word word i, after_word word i)
+eat_word word = λ i. Ok (sees_word word i, after_word word i)
 
-abbrev pub name_at : List Token → Option (List ℕ)
-name_at (token.Name name ∷ ts) = Some name
-name_at (token.Number text ∷ ts) = None
-name_at (token.Text content ∷ ts) = None
-name_at (token.Mark n ∷ ts) = None
-name_at [] = None
+-- the bytes of a part, if it is of this kind
+abbrev pub bytes_in : Kind → Token → Option (List ℕ)
+bytes_in kind.Name (token.Name name) = Some name
+bytes_in kind.Number (token.Number text) = Some text
+bytes_in kind.Text (token.Text content) = Some content
+bytes_in _ _ = None
 
-abbrev pub number_at : List Token → Option (List ℕ)
-number_at (token.Name name ∷ ts) = None
-number_at (token.Number text ∷ ts) = Some text
-number_at (token.Text content ∷ ts) = None
-number_at (token.Mark n ∷ ts) = None
-number_at [] = None
-
-abbrev pub text_at : List Token → Option (List ℕ)
-text_at (token.Name name ∷ ts) = None
-text_at (token.Number text ∷ ts) = None
-text_at (token.Text content ∷ ts) = Some content
-text_at (token.Mark n ∷ ts) = None
-text_at [] = None
-
--- the name of a sub: a name, or a text in quotes
-abbrev pub sub_at : List Token → Option (List ℕ)
-sub_at (token.Name name ∷ ts) = Some name
-sub_at (token.Number text ∷ ts) = None
-sub_at (token.Text content ∷ ts) = Some content
-sub_at (token.Mark n ∷ ts) = None
-sub_at [] = None
+abbrev pub bytes_at : Kind → List Token → Option (List ℕ)
+bytes_at k [] = None
+bytes_at k (t ∷ ts) = bytes_in k t
 
 abbrev pub taken : Option (List ℕ) → Input → Outcome (List ℕ)
-taken (Some bytes) i = Some (bytes, next i)
-taken None i = None
+taken (Some bytes) i = Ok (bytes, next i)
+taken None i = Err tt
 
-unfoldable pub name : Reader (List ℕ)
-name = λ i. taken (name_at i.rest) i
+-- the bytes of the next part, which is of this kind
+unfoldable pub part : Kind → Reader (List ℕ)
+part k = λ i. taken (bytes_at k i.rest) i
 
-unfoldable pub number : Reader (List ℕ)
-number = λ i. taken (number_at i.rest) i
+abbrev pub names_sub : Kind → Bool
+names_sub kind.Name = true
+names_sub kind.Number = false
+names_sub kind.Text = true
+names_sub kind.Mark = false
+names_sub kind.End = false
 
-unfoldable pub text : Reader (List ℕ)
-text = λ i. taken (text_at i.rest) i
-
+-- the name of a sub: a name, or a text in quotes
 unfoldable pub sub_name : Reader (List ℕ)
-sub_name = λ i. taken (sub_at i.rest) i
+sub_name = λ i. if names_sub (kind_of i) then part (kind_of i) i else Err tt
 
 -- ---- what no reading can mend
 
@@ -208,7 +176,7 @@ unfoldable pub named : List ℕ → Input → Input
 named name i = record i { unknown = or_else i.unknown (unless (is_alive i.scope name) name) }
 
 abbrev pub noted : (Input → Input) → Reader (Unit {0})
-noted note = λ i. Some (tt, note i)
+noted note = λ i. Ok (tt, note i)
 
 -- a number stands that is out of its range
 unfoldable pub exceeded : List ℕ → Input → Input
@@ -225,6 +193,6 @@ met i = record { unknown = i.unknown; beyond = i.beyond; deepest = i.deepest }
 -- ---- what a function that reads ensures
 
 abbrev pub Reads : {X A : Type 0} → (X → A) → Outcome A → Result X Stop → Input → Type 0
-Reads view outcome (Ok x) new = outcome ≡ Some (view x, new)
-Reads view outcome (Err stop.Unread) new = outcome ≡ None
+Reads view outcome (Ok x) new = outcome ≡ Ok (view x, new)
+Reads view outcome (Err stop.Unread) new = outcome ≡ Err tt
 Reads view outcome (Err stop.Memory) new = Unit {0}

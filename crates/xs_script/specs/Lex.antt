@@ -1,26 +1,22 @@
 -- The parts of a line.
-use Rattle.std.specs.List.{prefix_len}
-use Rattle.std.specs.Prelude.{ℕ, zero, suc, ◌+◌, ◌*◌, ◌-◌, Bool, true, false, not, ◌&&◌, ◌||◌, ◌==◌, if◌then◌else◌, nat_le, List, [], ◌∷◌, ◌++◌, take, drop, Option, Some, None}
-use Rattle.xs_base.specs.Scanning.{begins_word, is_blank, is_digit, is_word_byte}
+use Rattle.std.specs.Prelude.{ℕ, zero, suc, ◌+◌, ◌*◌, ◌-◌, Bool, false, not, ◌&&◌, ◌||◌, ◌==◌, if◌then◌else◌, nat_le, List, [], ◌∷◌, ◌++◌, length, Option, Some, None, Result, Ok, Err}
+use Rattle.xs_base.specs.Names.{is_qualified_name}
+use Rattle.xs_base.specs.Readers.{head_is}
+use Rattle.xs_base.specs.Runs.{behind, front_of}
+use Rattle.xs_base.specs.Scanning.{begins_word, is_blank, is_digit}
+use Rattle.xs_base.specs.declared.runs.ByteClass.TheVariants.{Digit, Name}
+use Rattle.xs_script.specs.Fronts.{with_front}
+use Rattle.xs_script.specs.Input.{NoReading}
 use Rattle.xs_script.specs.declared.token.Token.{Token}
 use Rattle.xs_script.specs.declared.token.Token.TheVariants as token
 use Rattle.xs_script.specs.declared.token.Mark.{Mark}
 use Rattle.xs_script.specs.declared.token.Mark.TheVariants as mark
 use Rattle.xs_script.specs.declared.token.Front.{Front}
 use Rattle.xs_script.specs.declared.token.Front.TheVariants as front
-use Rattle.xs_script.specs.declared.lexing.PathPlace.{PathPlace}
-use Rattle.xs_script.specs.declared.lexing.PathPlace.TheVariants as path
 use Rattle.xs_script.specs.declared.lexing.TextPlace.{TextPlace}
 use Rattle.xs_script.specs.declared.lexing.TextPlace.TheVariants as text
 
 -- ---- bytes
-
-abbrev pub is_in_path : ℕ → Bool
-is_in_path b = is_word_byte b || b == 58
-
-abbrev pub begins_with : ℕ → List ℕ → Bool
-begins_with b [] = false
-begins_with b (first ∷ bytes) = first == b
 
 -- the value of a hexadecimal digit of either case
 abbrev pub hex_value : ℕ → Option ℕ
@@ -31,30 +27,23 @@ hex_value b =
 
 -- ---- names
 
--- whether the rest is one of identifiers joined by `::`, of which the byte of this place comes next
-abbrev pub is_path : PathPlace → List ℕ → Bool
-is_path path.First [] = false
-is_path path.First (b ∷ bs) = begins_word b && is_path path.Within bs
-is_path path.Within [] = true
-is_path path.Within (b ∷ bs) = if b == 58 then is_path path.Colon bs else (is_word_byte b && is_path path.Within bs)
-is_path path.Colon [] = false
-is_path path.Colon (b ∷ bs) = b == 58 && is_path path.First bs
-
--- A name. A number right behind it begins with its sign, since a digit would belong to the name.
-abbrev pub name_of_len : ℕ → List ℕ → Front
-name_of_len len bytes = if is_path path.First (take len bytes) && not (begins_with 45 (drop len bytes)) then front.Piece (token.Name (take len bytes)) len else front.Nothing
+-- A name with what stands behind it. A number right behind it begins with its sign, since a digit would belong to the name.
+abbrev pub name_before : List ℕ → List ℕ → Front
+name_before name after = if is_qualified_name name && not (head_is (λ b. b == 45) after) then front.Piece (token.Name name) (length name) else front.Nothing
 
 abbrev pub name_front : List ℕ → Front
-name_front bytes = name_of_len (prefix_len is_in_path bytes) bytes
+name_front bytes = name_before (front_of Name bytes) (behind Name bytes)
 
 -- ---- numbers
 
-abbrev pub number_of_len : ℕ → ℕ → List ℕ → Front
-number_of_len sign digits bytes = if digits == 0 then front.Nothing else front.Piece (token.Number (take (sign + digits) bytes)) (sign + digits)
+-- a number of a sign and digits
+abbrev pub signed_number : List ℕ → List ℕ → Front
+signed_number sign [] = front.Nothing
+signed_number sign (d ∷ ds) = front.Piece (token.Number (sign ++ d ∷ ds)) (length (sign ++ d ∷ ds))
 
--- a number, of which this many bytes are its sign
-abbrev pub number_front : ℕ → List ℕ → Front
-number_front sign bytes = number_of_len sign (prefix_len is_digit (drop sign bytes)) bytes
+-- a number whose digits stand behind this sign
+abbrev pub number_front : List ℕ → List ℕ → Front
+number_front sign after = signed_number sign (front_of Digit after)
 
 -- ---- texts
 
@@ -122,37 +111,33 @@ alone (Some m) = front.Piece (token.Mark m) 1
 alone None = front.Nothing
 
 abbrev pub mark_front : ℕ → List ℕ → Front
-mark_front b after = if b == 61 && begins_with 62 after then front.Piece (token.Mark mark.Arrow) 2 else alone (single b)
+mark_front b after = if b == 61 && head_is (λ c. c == 62) after then front.Piece (token.Mark mark.Arrow) 2 else alone (single b)
 
 -- ---- lines
 
 -- what stands at the front of the rest of a line
-unfoldable pub front_of : List ℕ → Front
-front_of [] = front.Nothing
-front_of (b ∷ bs) =
+unfoldable pub first_part : List ℕ → Front
+first_part [] = front.Nothing
+first_part (b ∷ bs) =
     if is_blank b then front.Blank
     else (if begins_word b then name_front (b ∷ bs)
-    else (if is_digit b then number_front 0 (b ∷ bs)
-    else (if b == 45 then number_front 1 (b ∷ bs)
+    else (if is_digit b then number_front [] (b ∷ bs)
+    else (if b == 45 then number_front (45 ∷ []) bs
     else (if b == 34 then text_front text.Plain [] 1 bs
     else mark_front b bs))))
 
-abbrev pub with_front : List Token → Option (List Token) → Option (List Token)
-with_front ts (Some us) = Some (ts ++ us)
-with_front ts None = None
-
 -- the parts of a line, with those behind the front by how many of its further bytes are passed over
-abbrev pub by_front : Front → (ℕ → Option (List Token)) → Option (List Token)
+abbrev pub by_front : Front → (ℕ → Result (List Token) NoReading) → Result (List Token) NoReading
 by_front front.Blank behind = behind 0
 by_front (front.Piece token len) behind = with_front (token ∷ []) (behind (len - 1))
-by_front front.Nothing behind = None
+by_front front.Nothing behind = Err tt
 
 -- the parts of the rest of a line, whose first bytes, as many as the number says, belong to the part before
-unfoldable pub tokens_from : ℕ → List ℕ → Option (List Token)
-tokens_from skip [] = Some []
+unfoldable pub tokens_from : ℕ → List ℕ → Result (List Token) NoReading
+tokens_from skip [] = Ok []
 tokens_from (suc skip) (b ∷ bs) = tokens_from skip bs
-tokens_from zero (b ∷ bs) = by_front (front_of (b ∷ bs)) (λ skip. tokens_from skip bs)
+tokens_from zero (b ∷ bs) = by_front (first_part (b ∷ bs)) (λ skip. tokens_from skip bs)
 
--- the parts of a line, or None where a byte begins no part
-abbrev pub tokens_of : List ℕ → Option (List Token)
+-- the parts of a line; there is no reading where a byte begins no part
+abbrev pub tokens_of : List ℕ → Result (List Token) NoReading
 tokens_of line = tokens_from 0 line

@@ -19,7 +19,8 @@ use Rattle.xs_script.specs.Form.{Form, Forms, Pairs, Deed, Written}
 use Rattle.xs_script.specs.Grammar as g
 use Rattle.xs_script.specs.Numbers.{number_of, argument_of}
 use Rattle.xs_script.specs.Scope.{is_alive}
-use Rattle.xs_script.specs.Script.{first_fault, faulty, is_skipped, fault, behind, with_front, empty_scope}
+use Rattle.xs_script.specs.Script.{first_fault, faulty, is_skipped, fault, behind, empty_scope}
+use Rattle.xs_script.specs.Fronts.{with_front}
 use Rattle.xs_script.specs.Spelling.{Spelled}
 use Rattle.xs_script.specs.Value.{max_nesting}
 use Rattle.xs_script.specs.View.{said_all}
@@ -67,159 +68,89 @@ said_of line (f.Drop n) = p.Drop line n
 said_of line (f.Isa n m) = p.Isa line n m
 said_of line (f.Sub n ds) = p.Sub line n (map act_of ds)
 
--- ---- the variables that are named, from left to right
+-- ---- what may be at fault
 
+-- The variables that are named and the numbers out of their range, both from left to right, and how many brackets are open
+-- at once.
+pub record Contents : Type 0 where
+  pub variables : List (List ℕ)
+  pub excess : List (List ℕ)
+  pub reach : ℕ
+
+abbrev pub nothing : Contents
+nothing = record { variables = []; excess = []; reach = 0 }
+
+abbrev pub one_variable : List ℕ → Contents
+one_variable name = record { variables = name ∷ []; excess = []; reach = 0 }
+
+-- a number as it stands, with its value if it is in its range
+abbrev pub one_number : {A : Type 0} → Option A → List ℕ → Contents
+one_number (Some a) text = nothing
+one_number None text = record { variables = []; excess = text ∷ []; reach = 0 }
+
+abbrev pub brackets : ℕ → Contents
+brackets n = record { variables = []; excess = []; reach = n }
+
+abbrev pub both : Contents → Contents → Contents
+both a b = record { variables = a.variables ++ b.variables; excess = a.excess ++ b.excess; reach = max a.reach b.reach }
+
+abbrev pub in_all : {X : Type 0} → (X → Contents) → List X → Contents
+in_all has [] = nothing
+in_all has (x ∷ xs) = both (has x) (in_all has xs)
+
+-- what an expression has that stands in so many brackets
 abbrev mutual
-  pub uses : Form → List (List ℕ)
-  uses f.Undef = []
-  uses (f.Number n) = []
-  uses (f.Text content) = []
-  uses (f.Variable n) = n ∷ []
-  uses (f.Reference n) = n ∷ []
-  uses (f.ListOf fs) = uses_list fs
-  uses (f.HashOf ps) = uses_pairs ps
-  uses (f.Argument k) = []
+  pub contents : ℕ → Form → Contents
+  contents d f.Undef = nothing
+  contents d (f.Number n) = one_number (number_of n) n
+  contents d (f.Text content) = nothing
+  contents d (f.Variable n) = one_variable n
+  contents d (f.Reference n) = one_variable n
+  contents d (f.ListOf fs) = both (brackets (d + 1)) (contents_list (suc d) fs)
+  contents d (f.HashOf ps) = both (brackets (d + 1)) (contents_pairs (suc d) ps)
+  contents d (f.Argument k) = one_number (argument_of k) k
 
-  pub uses_list : Forms → List (List ℕ)
-  uses_list f.NoForm = []
-  uses_list (f.MoreForms e fs) = uses e ++ uses_list fs
+  pub contents_list : ℕ → Forms → Contents
+  contents_list d f.NoForm = nothing
+  contents_list d (f.MoreForms e fs) = both (contents d e) (contents_list d fs)
 
-  pub uses_pairs : Pairs → List (List ℕ)
-  uses_pairs f.NoPair = []
-  uses_pairs (f.MorePairs k e ps) = uses e ++ uses_pairs ps
+  pub contents_pairs : ℕ → Pairs → Contents
+  contents_pairs d f.NoPair = nothing
+  contents_pairs d (f.MorePairs k e ps) = both (contents d e) (contents_pairs d ps)
 
-abbrev pub uses_args : List Form → List (List ℕ)
-uses_args [] = []
-uses_args (e ∷ es) = uses e ++ uses_args es
+abbrev pub contents_args : List Form → Contents
+contents_args es = in_all (contents 0) es
 
-abbrev pub uses_deed : Deed → List (List ℕ)
-uses_deed (f.Push e) = uses e
-uses_deed (f.Set k e) = uses e
-uses_deed (f.Call n es) = uses_args es
-uses_deed (f.Die content) = []
+abbrev pub contents_deed : Deed → Contents
+contents_deed (f.Push e) = contents 0 e
+contents_deed (f.Set k e) = both (one_number (argument_of k) k) (contents 0 e)
+contents_deed (f.Call n es) = contents_args es
+contents_deed (f.Die content) = nothing
 
-abbrev pub uses_deeds : List Deed → List (List ℕ)
-uses_deeds [] = []
-uses_deeds (d ∷ ds) = uses_deed d ++ uses_deeds ds
-
-abbrev pub uses_written : Written → List (List ℕ)
-uses_written (f.My n e) = uses e
-uses_written (f.MyCall n m es) = uses_args es
-uses_written (f.Ro n) = n ∷ []
-uses_written (f.CallSub n es) = uses_args es
-uses_written (f.Show n) = n ∷ []
-uses_written (f.Drop n) = n ∷ []
-uses_written (f.Isa n m) = []
-uses_written (f.Sub n ds) = uses_deeds ds
+abbrev pub contents_of : Written → Contents
+contents_of (f.My n e) = contents 0 e
+contents_of (f.MyCall n m es) = contents_args es
+contents_of (f.Ro n) = one_variable n
+contents_of (f.CallSub n es) = contents_args es
+contents_of (f.Show n) = one_variable n
+contents_of (f.Drop n) = one_variable n
+contents_of (f.Isa n m) = nothing
+contents_of (f.Sub n ds) = in_all contents_deed ds
 
 -- the first that is not declared, or was dropped
 abbrev pub first_unknown : Scope → List (List ℕ) → Option (List ℕ)
 first_unknown scope [] = None
 first_unknown scope (n ∷ ns) = if is_alive scope n then first_unknown scope ns else Some n
 
--- ---- the numbers out of their range, from left to right
-
-abbrev pub without_value : {A : Type 0} → Option A → List ℕ → List (List ℕ)
-without_value (Some a) text = []
-without_value None text = text ∷ []
-
-abbrev mutual
-  pub excess : Form → List (List ℕ)
-  excess f.Undef = []
-  excess (f.Number n) = without_value (number_of n) n
-  excess (f.Text content) = []
-  excess (f.Variable n) = []
-  excess (f.Reference n) = []
-  excess (f.ListOf fs) = excess_list fs
-  excess (f.HashOf ps) = excess_pairs ps
-  excess (f.Argument k) = without_value (argument_of k) k
-
-  pub excess_list : Forms → List (List ℕ)
-  excess_list f.NoForm = []
-  excess_list (f.MoreForms e fs) = excess e ++ excess_list fs
-
-  pub excess_pairs : Pairs → List (List ℕ)
-  excess_pairs f.NoPair = []
-  excess_pairs (f.MorePairs k e ps) = excess e ++ excess_pairs ps
-
-abbrev pub excess_args : List Form → List (List ℕ)
-excess_args [] = []
-excess_args (e ∷ es) = excess e ++ excess_args es
-
-abbrev pub excess_deed : Deed → List (List ℕ)
-excess_deed (f.Push e) = excess e
-excess_deed (f.Set k e) = without_value (argument_of k) k ++ excess e
-excess_deed (f.Call n es) = excess_args es
-excess_deed (f.Die content) = []
-
-abbrev pub excess_deeds : List Deed → List (List ℕ)
-excess_deeds [] = []
-excess_deeds (d ∷ ds) = excess_deed d ++ excess_deeds ds
-
-abbrev pub excess_written : Written → List (List ℕ)
-excess_written (f.My n e) = excess e
-excess_written (f.MyCall n m es) = excess_args es
-excess_written (f.Ro n) = []
-excess_written (f.CallSub n es) = excess_args es
-excess_written (f.Show n) = []
-excess_written (f.Drop n) = []
-excess_written (f.Isa n m) = []
-excess_written (f.Sub n ds) = excess_deeds ds
-
 abbrev pub first : List (List ℕ) → Option (List ℕ)
 first [] = None
 first (text ∷ texts) = Some text
-
--- ---- how many brackets are open at once, in an expression that stands in so many
-
-abbrev mutual
-  pub reach : ℕ → Form → ℕ
-  reach d f.Undef = 0
-  reach d (f.Number n) = 0
-  reach d (f.Text content) = 0
-  reach d (f.Variable n) = 0
-  reach d (f.Reference n) = 0
-  reach d (f.ListOf fs) = max (d + 1) (reach_list (suc d) fs)
-  reach d (f.HashOf ps) = max (d + 1) (reach_pairs (suc d) ps)
-  reach d (f.Argument k) = 0
-
-  pub reach_list : ℕ → Forms → ℕ
-  reach_list d f.NoForm = 0
-  reach_list d (f.MoreForms e fs) = max (reach d e) (reach_list d fs)
-
-  pub reach_pairs : ℕ → Pairs → ℕ
-  reach_pairs d f.NoPair = 0
-  reach_pairs d (f.MorePairs k e ps) = max (reach d e) (reach_pairs d ps)
-
-abbrev pub reach_args : List Form → ℕ
-reach_args [] = 0
-reach_args (e ∷ es) = max (reach 0 e) (reach_args es)
-
-abbrev pub reach_deed : Deed → ℕ
-reach_deed (f.Push e) = reach 0 e
-reach_deed (f.Set k e) = reach 0 e
-reach_deed (f.Call n es) = reach_args es
-reach_deed (f.Die content) = 0
-
-abbrev pub reach_deeds : List Deed → ℕ
-reach_deeds [] = 0
-reach_deeds (d ∷ ds) = max (reach_deed d) (reach_deeds ds)
-
-abbrev pub reach_written : Written → ℕ
-reach_written (f.My n e) = reach 0 e
-reach_written (f.MyCall n m es) = reach_args es
-reach_written (f.Ro n) = 0
-reach_written (f.CallSub n es) = reach_args es
-reach_written (f.Show n) = 0
-reach_written (f.Drop n) = 0
-reach_written (f.Isa n m) = 0
-reach_written (f.Sub n ds) = reach_deeds ds
 
 -- ---- lines and scripts
 
 -- what is at fault in a command although it has a reading
 abbrev pub met_in : Scope → Written → Met
-met_in scope c = record { unknown = first_unknown scope (uses_written c); beyond = first (excess_written c); deepest = reach_written c }
+met_in scope c = record { unknown = first_unknown scope (contents_of c).variables; beyond = first (contents_of c).excess; deepest = (contents_of c).reach }
 
 -- a command that is written on a line, or its first fault
 abbrev pub judge : Scope → ℕ → Written → Result (Option Said) Fault

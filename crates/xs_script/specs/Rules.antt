@@ -1,12 +1,12 @@
 -- Commands and actions.
 use Rattle.std.specs.Prelude.{ℕ, zero, suc, Bool, true, false, if◌then◌else◌, List, [], ◌∷◌, ◌++◌, codes, ◌&&◌}
-use Rattle.xs_script.specs.declared.token.Kind.{Kind}
 use Rattle.xs_script.specs.declared.token.Kind.TheVariants as kind
 use Rattle.xs_script.specs.declared.token.Mark.TheVariants as mark
 use Rattle.xs_script.specs.Expr as p
 use Rattle.xs_script.specs.Expr.{Expr, Act, Said}
 use Rattle.xs_script.specs.Input as i
-use Rattle.xs_script.specs.Input.{Input, Reader, ◌>>=◌, ◌>>◌, ◌<$>◌, pure, refuse, eat, eat_word, expect, sees_word, kind_of, next, left}
+use Rattle.xs_base.specs.Readers.{◌>>=◌, ◌>>◌, ◌<$>◌, pure}
+use Rattle.xs_script.specs.Input.{Input, Reader, refuse, eat, eat_word, expect, sees_word, kind_of, next, left, names_sub}
 use Rattle.xs_script.specs.Value.{value, variable, argument}
 
 -- the arguments of a call behind the opening parenthesis and its first argument; each takes a part, so that the count of the parts is enough
@@ -27,16 +27,20 @@ arguments in_sub = do
   is_empty ← eat mark.CloseRound
   if is_empty then pure [] else some_arguments in_sub
 
+abbrev pub called : List ℕ → List Expr → List ℕ × List Expr
+called sub args = (sub, args)
+
+-- a sub and the arguments of its call
+unfoldable pub call : Bool → Reader (List ℕ × List Expr)
+call in_sub = do
+  sub ← i.sub_name
+  called sub <$> arguments in_sub
+
 unfoldable pub set_action : Reader Act
 set_action = do
   k ← argument
   expect mark.Equals
   p.Set k <$> value true
-
-unfoldable pub call_action : Reader Act
-call_action = do
-  sub ← i.sub_name
-  p.Call sub <$> arguments true
 
 unfoldable pub action : Reader Act
 action = do
@@ -45,9 +49,9 @@ action = do
     is_set ← eat_word (codes "set")
     if is_set then set_action else (do
       is_call ← eat_word (codes "call")
-      if is_call then call_action else (do
+      if is_call then (λ (c : List ℕ × List Expr). p.Call c.0 c.1) <$> call true else (do
         is_die ← eat_word (codes "die")
-        if is_die then p.Die <$> i.text else refuse)))
+        if is_die then p.Die <$> i.part kind.Text else refuse)))
 
 -- the actions of a sub
 unfoldable pub actions_from : ℕ → List Act → Reader (List Act)
@@ -60,39 +64,21 @@ actions_from (suc n) all = do
 unfoldable pub actions : Reader (List Act)
 actions = λ input. actions_from (left input) [] input
 
-abbrev pub names_sub : Kind → Bool
-names_sub kind.Name = true
-names_sub kind.Number = false
-names_sub kind.Text = true
-names_sub kind.Mark = false
-names_sub kind.End = false
-
 -- A call comes next: the word `call` and the name of a sub. The word alone may be a variable.
 unfoldable pub sees_call : Input → Bool
 sees_call input = sees_word (codes "call") input && names_sub (kind_of (next input))
 
-unfoldable pub call_value : ℕ → List ℕ → Reader Said
-call_value line name = do
-  eat_word (codes "call")
-  sub ← i.sub_name
-  p.MyCall line name sub <$> arguments false
-
 unfoldable pub my_command : ℕ → Reader Said
 my_command line = do
-  name ← i.name
+  name ← i.part kind.Name
   expect mark.Equals
   is_call ← (λ input. i.told (sees_call input) input)
-  if is_call then call_value line name else p.My line name <$> value false
-
-unfoldable pub call_command : ℕ → Reader Said
-call_command line = do
-  sub ← i.sub_name
-  p.CallSub line sub <$> arguments false
+  if is_call then (eat_word (codes "call") >> ((λ (c : List ℕ × List Expr). p.MyCall line name c.0 c.1) <$> call false)) else p.My line name <$> value false
 
 unfoldable pub isa_command : ℕ → Reader Said
 isa_command line = do
-  class ← i.name
-  parent ← i.name
+  class ← i.part kind.Name
+  parent ← i.part kind.Name
   pure (p.Isa line class parent)
 
 unfoldable pub sub_command : ℕ → Reader Said
@@ -116,7 +102,7 @@ by_word line = do
   is_my ← eat_word (codes "my")
   if is_my then my_command line else (do
     is_call ← eat_word (codes "call")
-    if is_call then call_command line else (do
+    if is_call then (λ (c : List ℕ × List Expr). p.CallSub line c.0 c.1) <$> call false else (do
       is_isa ← eat_word (codes "isa")
       if is_isa then isa_command line else (do
         is_sub ← eat_word (codes "sub")

@@ -14,8 +14,9 @@ use Rattle.xs_script.specs.declared.token.Token.{Token}
 use Rattle.xs_script.specs.View.{said}
 use Rattle.xs_script.specs.Expr as p
 use Rattle.xs_script.specs.Expr.{Said}
-use Rattle.xs_script.specs.Input.{Input, Outcome, start_of, met}
-use Rattle.xs_base.specs.Scanning.{behind_blanks}
+use Rattle.xs_script.specs.Input.{Input, NoReading, Outcome, start_of, met}
+use Rattle.xs_base.specs.Runs.{behind_blanks}
+use Rattle.xs_script.specs.Fronts.{with_front}
 use Rattle.xs_script.specs.Lex.{tokens_of}
 use Rattle.xs_script.specs.Rules.{command}
 use Rattle.xs_script.specs.Scope.{holds}
@@ -126,20 +127,20 @@ faulty (Some f) said = Err f
 faulty None said = Ok (Some said)
 
 abbrev pub judged : Scope → ℕ → Outcome Said → Result (Option Said) Fault
-judged scope line (Some read) = faulty (first_fault scope line read.0 (met read.1)) read.0
-judged scope line None = Err (fault line 951 [])
+judged scope line (Ok read) = faulty (first_fault scope line read.0 (met read.1)) read.0
+judged scope line (Err _) = Err (fault line 951 [])
 
-abbrev pub read_parts : Scope → ℕ → Option (List Token) → Outcome Said
-read_parts scope line (Some parts) = command line (start_of scope parts)
-read_parts scope line None = None
+abbrev pub read_parts : Scope → ℕ → Result (List Token) NoReading → Outcome Said
+read_parts scope line (Ok parts) = command line (start_of scope parts)
+read_parts scope line (Err _) = Err tt
 
 unfoldable pub reading_of : Scope → Line → Outcome Said
 reading_of scope line = read_parts scope line.number (tokens_of line.text)
 
 -- What a call that reads a line ensures: the command and what was met, or that there is no reading.
 abbrev pub ReadsLine : Result (Command × Met) Stop → Outcome Said → Type 0
-ReadsLine (Ok read) outcome = (i : Input) × (outcome ≡ Some (said read.0, i)) × (met i ≡ read.1)
-ReadsLine (Err stop.Unread) outcome = outcome ≡ None
+ReadsLine (Ok read) outcome = (i : Input) × (outcome ≡ Ok (said read.0, i)) × (met i ≡ read.1)
+ReadsLine (Err stop.Unread) outcome = outcome ≡ Err tt
 ReadsLine (Err stop.Memory) outcome = Unit {0}
 
 -- the command of a line, if it has one, or its first fault
@@ -147,10 +148,6 @@ unfoldable pub line_of : Scope → Line → Result (Option Said) Fault
 line_of scope line = if is_skipped line.text then Ok None else judged scope line.number (reading_of scope line)
 
 -- ---- scripts
-
-abbrev pub with_front : List Said → Result (List Said) Fault → Result (List Said) Fault
-with_front before (Ok after) = Ok (before ++ after)
-with_front before (Err f) = Err f
 
 abbrev pub go_on : Option Said → Scope → (Scope → Result (List Said) Fault) → Result (List Said) Fault
 go_on None scope rest = rest scope

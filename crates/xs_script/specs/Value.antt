@@ -8,7 +8,8 @@ use Rattle.xs_script.specs.declared.token.Mark.TheVariants as mark
 use Rattle.xs_script.specs.Expr as p
 use Rattle.xs_script.specs.Expr.{Expr, exprs_of, entries_of}
 use Rattle.xs_script.specs.Input as i
-use Rattle.xs_script.specs.Input.{Reader, ◌>>=◌, ◌>>◌, ◌<$>◌, pure, refuse, peek, eat, eat_word, expect, noted, named, exceeded, opened, left}
+use Rattle.xs_base.specs.Readers.{◌>>=◌, ◌>>◌, ◌<$>◌, pure}
+use Rattle.xs_script.specs.Input.{Reader, refuse, peek, eat, eat_word, expect, noted, named, exceeded, opened, left}
 use Rattle.xs_script.specs.Numbers.{number_of, argument_of}
 use Rattle.std.specs.Prelude.{pos}
 
@@ -18,7 +19,7 @@ max_nesting = 16
 -- a variable, known or not
 unfoldable pub variable : Reader (List ℕ)
 variable = do
-  name ← i.name
+  name ← i.part kind.Name
   noted (named name)
   pure name
 
@@ -29,14 +30,14 @@ ranged None stand_in text = noted (exceeded text) >> pure stand_in
 
 unfoldable pub whole_number : Reader Number
 whole_number = do
-  text ← i.number
+  text ← i.part kind.Number
   ranged (number_of text) (number.Int (pos 0)) text
 
 -- `arg K`
 unfoldable pub argument : Reader ℕ
 argument = do
   is_arg ← eat_word (codes "arg")
-  if is_arg then (do text ← i.number; ranged (argument_of text) 0 text) else refuse
+  if is_arg then (do text ← i.part kind.Number; ranged (argument_of text) 0 text) else refuse
 
 -- an expression that begins with a name: outside subs a variable, in subs an argument
 unfoldable pub by_name : Bool → Reader Expr
@@ -51,7 +52,7 @@ reference in_sub = if in_sub then refuse else (expect mark.Backslash >> (p.Refer
 abbrev pub simple_by : Bool → Kind → Reader Expr
 simple_by in_sub kind.Name = by_name in_sub
 simple_by in_sub kind.Number = p.Num <$> whole_number
-simple_by in_sub kind.Text = p.Text <$> i.text
+simple_by in_sub kind.Text = p.Text <$> i.part kind.Text
 simple_by in_sub kind.Mark = reference in_sub
 simple_by in_sub kind.End = refuse
 
@@ -84,7 +85,7 @@ inside bracket around = record { around = bracket ∷ around; ended = None }
 -- a key and its arrow
 unfoldable pub key : Reader (List ℕ)
 key = do
-  name ← i.text
+  name ← i.part kind.Text
   expect mark.Arrow
   pure name
 

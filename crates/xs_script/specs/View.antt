@@ -1,5 +1,5 @@
 -- The program's commands as plain data.
-use Rattle.std.specs.Prelude.{List, map}
+use Rattle.std.specs.Prelude.{ℕ, List, map}
 use Rattle.std.specs.declared.alloc.Global.{Global}
 use Rattle.std.specs.declared.vec.Vec.{Vec}
 use Rattle.xs_script.specs.declared.command.E.{E}
@@ -34,6 +34,9 @@ act (action.Die text) = p.Die text
 
 abbrev pub exprs_in : Vec E Global → List Expr
 exprs_in es = map plain es.items
+
+abbrev pub call_of : List ℕ × Vec E Global → List ℕ × List Expr
+call_of c = (c.0, exprs_in c.1)
 
 abbrev pub acts_of : Vec Action Global → List Act
 acts_of actions = map act actions.items

@@ -3,7 +3,6 @@ ghost use Rattle.std.specs.Prelude.{◌≡◌, ◌∷◌, ◌<◌, ◌^◌, [], 
 ghost use Rattle.xs_script.specs.Brackets.{around_of, bracket};
 
 use crate::command::E;
-use std::alloc::AllocError;
 use xs_base::Bytes;
 
 /// An open bracket, with what was read in it.
@@ -22,14 +21,6 @@ pub fn depth(around: &Vec<Open>) -> usize
     ensures few { result < 2 ^ 63 }
 {
     around.len()
-}
-
-#[tactic(auto, using(crate::proofs::Arounds::arounds))]
-pub fn push_open(around: &mut Vec<Open>, inner: Open) -> Result<(), AllocError>
-    ensures { OnOk result (around_of around.new.items ≡ bracket inner ∷ around_of around.old.items) }
-{
-    around.push(inner)?;
-    Ok(())
 }
 
 #[tactic(auto, using(crate::proofs::Arounds::arounds))]

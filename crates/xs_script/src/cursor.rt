@@ -1,5 +1,5 @@
 //! The parts that are left of a line.
-ghost use Rattle.std.specs.Prelude.{◌≡◌, ◌<◌, ◌^◌, None};
+ghost use Rattle.std.specs.Prelude.{◌≡◌, ◌<◌, ◌^◌, MatchOption, None, Some};
 ghost use Rattle.xs_script.specs.Input as spec;
 ghost use Rattle.xs_script.specs.Input.{Reads};
 
@@ -14,12 +14,7 @@ use xs_base::Bytes;
 pub struct Cursor<'a> {
     rest: &'a [Token],
     scope: &'a Scope,
-    /// The first variable that is not known.
-    unknown: Option<Bytes>,
-    /// The first number out of its range.
-    beyond: Option<Bytes>,
-    /// The most brackets that stood open.
-    deepest: usize,
+    met: Met,
 }
 
 impl<'a> Model for Cursor<'a> {
@@ -27,14 +22,17 @@ impl<'a> Model for Cursor<'a> {
 
     ghost Value = { Input };
 
-    ghost view = { λ c. record { rest = c.rest.now; scope = c.scope.now; unknown = c.unknown; beyond = c.beyond; deepest = c.deepest } };
+    ghost view = { λ c. record { rest = c.rest.now; scope = c.scope.now; unknown = c.met.unknown; beyond = c.met.beyond; deepest = c.met.deepest } };
 }
 
 /// What was met in a line that is at fault although the line has a reading.
 #[derive(Drop)]
 pub struct Met {
+    /// The first variable that is not known.
     pub unknown: Option<Bytes>,
+    /// The first number out of its range.
     pub beyond: Option<Bytes>,
+    /// The most brackets that stood open.
     pub deepest: usize,
 }
 
@@ -86,6 +84,28 @@ fn kind_of_token(token: &Token) -> Kind
     }
 }
 
+// The bytes of a part, if it is of this kind.
+fn bytes_in(kind: Kind, token: &Token) -> Option<&Bytes>
+    ensures { MatchOption result (spec.bytes_in kind token.now ≡ None) (λ bytes. spec.bytes_in kind token.now ≡ Some bytes.now) }
+{
+    match (kind, token) {
+        (Kind::Name, Token::Name(bytes)) => Some(bytes),
+        (Kind::Number, Token::Number(bytes)) => Some(bytes),
+        (Kind::Text, Token::Text(bytes)) => Some(bytes),
+        _ => None,
+    }
+}
+
+/// Whether a part of this kind names a sub.
+pub fn names_sub(kind: Kind) -> bool
+    ensures { result ≡ spec.names_sub kind }
+{
+    match kind {
+        Kind::Name | Kind::Text => true,
+        Kind::Number | Kind::Mark | Kind::End => false,
+    }
+}
+
 impl<'a> Cursor<'a> {
     pub fn new(rest: &'a [Token], scope: &'a Scope) -> Cursor<'a>
         ensures { result ≡ spec.start_of scope.now rest.now }
@@ -93,9 +113,11 @@ impl<'a> Cursor<'a> {
         Cursor {
             rest,
             scope,
-            unknown: None,
-            beyond: None,
-            deepest: 0,
+            met: Met {
+                unknown: None,
+                beyond: None,
+                deepest: 0,
+            },
         }
     }
 
@@ -103,18 +125,8 @@ impl<'a> Cursor<'a> {
     pub fn into_met(self) -> Met
         ensures { spec.met self.entry ≡ result }
     {
-        let Cursor {
-            rest: _,
-            scope: _,
-            unknown,
-            beyond,
-            deepest,
-        } = self;
-        Met {
-            unknown,
-            beyond,
-            deepest,
-        }
+        let Cursor { met, .. } = self;
+        met
     }
 
     #[tactic(auto, unfolding(crate::specs::Input::left))]
@@ -166,13 +178,15 @@ impl<'a> Cursor<'a> {
         }
     }
 
-    /// Takes the next part, if there is one.
+    // Takes the next part, if there is one, where this is so.
     #[tactic(auto, unfolding(crate::specs::Input::next))]
-    pub fn skip(&mut self)
-        ensures { self.new ≡ spec.next self.old }
+    fn skip_if(&mut self, found: bool)
+        ensures { self.new ≡ spec.past found self.old }
     {
-        if let [_, rest @ ..] = self.rest {
-            self.rest = rest;
+        if found {
+            if let [_, rest @ ..] = self.rest {
+                self.rest = rest;
+            }
         }
     }
 
@@ -182,9 +196,7 @@ impl<'a> Cursor<'a> {
         ensures after { self.new ≡ spec.after mark self.old }
     {
         let found = self.sees(mark);
-        if found {
-            self.skip();
-        }
+        self.skip_if(found);
         found
     }
 
@@ -194,82 +206,49 @@ impl<'a> Cursor<'a> {
         ensures after { self.new ≡ spec.after_word word.now self.old }
     {
         let found = self.sees_word(word);
-        if found {
-            self.skip();
-        }
+        self.skip_if(found);
         found
     }
 
-    #[tactic(auto, unfolding(crate::specs::Input::expect))]
+    #[tactic(auto, unfolding(crate::specs::Input::expect, crate::specs::Input::after))]
     pub fn expect(&mut self, mark: Mark) -> Result<(), Stop>
         ensures { Reads (λ u. u) (spec.expect mark self.old) result self.new }
     {
-        if self.sees(mark) {
-            self.skip();
+        if self.eat(mark) {
             Ok(())
         } else {
             Err(Stop::Unread)
         }
     }
 
-    #[tactic(auto, unfolding(crate::specs::Input::name, crate::specs::Input::next))]
-    pub fn name(&mut self, alloc: Global) -> Result<Bytes, Stop>
-        ensures { Reads (λ b. b) (spec.name self.old) result self.new }
+    /// The bytes of the next part, which is of this kind.
+    #[tactic(auto, unfolding(crate::specs::Input::part, crate::specs::Input::next))]
+    pub fn part(&mut self, alloc: Global, kind: Kind) -> Result<Bytes, Stop>
+        ensures { Reads (λ b. b) (spec.part kind self.old) result self.new }
     {
         match self.rest {
-            [Token::Name(name), rest @ ..] => {
-                let copy = name.copy(alloc)?;
-                self.rest = rest;
-                Ok(copy)
-            }
-            _ => Err(Stop::Unread),
+            [first, rest @ ..] => match bytes_in(kind, first) {
+                Some(bytes) => {
+                    let copy = bytes.copy(alloc)?;
+                    self.rest = rest;
+                    Ok(copy)
+                }
+                None => Err(Stop::Unread),
+            },
+            [] => Err(Stop::Unread),
         }
     }
 
-    #[tactic(auto, unfolding(crate::specs::Input::number, crate::specs::Input::next))]
-    pub fn number(&mut self, alloc: Global) -> Result<Bytes, Stop>
-        ensures { Reads (λ b. b) (spec.number self.old) result self.new }
-    {
-        match self.rest {
-            [Token::Number(number), rest @ ..] => {
-                let copy = number.copy(alloc)?;
-                self.rest = rest;
-                Ok(copy)
-            }
-            _ => Err(Stop::Unread),
-        }
-    }
-
-    #[tactic(auto, unfolding(crate::specs::Input::text, crate::specs::Input::next))]
-    pub fn text(&mut self, alloc: Global) -> Result<Bytes, Stop>
-        ensures { Reads (λ b. b) (spec.text self.old) result self.new }
-    {
-        match self.rest {
-            [Token::Text(content), rest @ ..] => {
-                let copy = content.copy(alloc)?;
-                self.rest = rest;
-                Ok(copy)
-            }
-            _ => Err(Stop::Unread),
-        }
-    }
-
-    #[tactic(auto, unfolding(crate::specs::Input::sub_name, crate::specs::Input::next))]
+    /// The name of a sub: a name, or a text in quotes.
+    #[tactic(auto, unfolding(crate::specs::Input::sub_name))]
     pub fn sub_name(&mut self, alloc: Global) -> Result<Bytes, Stop>
         ensures { Reads (λ b. b) (spec.sub_name self.old) result self.new }
     {
-        match self.rest {
-            [Token::Name(name), rest @ ..] => {
-                let copy = name.copy(alloc)?;
-                self.rest = rest;
-                Ok(copy)
-            }
-            [Token::Text(content), rest @ ..] => {
-                let copy = content.copy(alloc)?;
-                self.rest = rest;
-                Ok(copy)
-            }
-            _ => Err(Stop::Unread),
+        let kind = self.kind();
+        if names_sub(kind) {
+            self.part(alloc, kind)
+        } else {
+            Err(Stop::Unread)
         }
     }
 
@@ -278,8 +257,8 @@ impl<'a> Cursor<'a> {
     pub fn named(&mut self, alloc: Global, name: &[u8]) -> Result<(), Stop>
         ensures { Reads (λ u. u) (spec.noted (spec.named name.now) self.old) result self.new }
     {
-        if self.unknown.is_none() && !is_alive(self.scope, name) {
-            self.unknown = Some(Bytes::from_slice(alloc, name)?);
+        if self.met.unknown.is_none() && !is_alive(self.scope, name) {
+            self.met.unknown = Some(Bytes::from_slice(alloc, name)?);
         }
         Ok(())
     }
@@ -289,8 +268,8 @@ impl<'a> Cursor<'a> {
     pub fn exceeded(&mut self, number: Bytes)
         ensures { self.new ≡ spec.exceeded number self.old }
     {
-        if self.beyond.is_none() {
-            self.beyond = Some(number);
+        if self.met.beyond.is_none() {
+            self.met.beyond = Some(number);
         }
     }
 
@@ -299,6 +278,6 @@ impl<'a> Cursor<'a> {
     pub fn opened(&mut self, brackets: usize)
         ensures { self.new ≡ spec.opened brackets self.old }
     {
-        self.deepest = self.deepest.max(brackets);
+        self.met.deepest = self.met.deepest.max(brackets);
     }
 }

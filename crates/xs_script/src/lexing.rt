@@ -1,27 +1,16 @@
 //! Cuts a line into the parts of a command.
-ghost use Rattle.std.specs.Prelude.{◌≡◌, [], ◌+◌, ◌++◌, ◌<◌, ◌≤◌, IfOk, IfSome, OnOk, length};
-ghost use Rattle.std.specs.List.{prefix_len};
-ghost use Rattle.xs_base.specs.Scanning.{is_digit};
+ghost use Rattle.std.specs.Prelude.{◌≡◌, [], ◌+◌, ◌++◌, ◌<◌, ◌==◌, ◌≤◌, IfOk, IfSome, OnOk, length};
+ghost use Rattle.xs_base.specs.Readers.{head_is};
 ghost use Rattle.xs_script.specs.Fits.{Fits, IsHexPlace};
 ghost use Rattle.xs_script.specs.Lex as spec;
-ghost use Rattle.xs_script.specs.declared.lexing.PathPlace.TheVariants as path;
 ghost use Rattle.xs_script.specs.declared.lexing.TextPlace.TheVariants as text;
 ghost use Rattle.xs_script.specs.Telling.{Tells};
 
 use crate::token::{Front, Mark, Stop, Token};
 use std::alloc::Global;
-use xs_base::{Bytes, Items, Memory, begins_word, is_blank, is_digit, is_word_byte};
-
-/// Which byte of identifiers joined by `::` comes next.
-#[derive(Clone, Copy, Debug, PartialEq, Eq)]
-pub enum PathPlace {
-    /// The first of an identifier.
-    First,
-    /// One more of an identifier, or a colon.
-    Within,
-    /// The second colon.
-    Colon,
-}
+use xs_base::{
+    ByteClass, Bytes, Items, Memory, begins_word, cut_run, is_blank, is_digit, is_qualified_name,
+};
 
 /// Which byte of a text in quotes comes next.
 #[derive(Clone, Copy, Debug, PartialEq, Eq)]
@@ -35,12 +24,6 @@ pub enum TextPlace {
     Low(u8),
 }
 
-fn is_in_path(b: u8) -> bool
-    ensures { result ≡ spec.is_in_path b }
-{
-    is_word_byte(b) || b == b':'
-}
-
 fn hex_value(b: u8) -> Option<u8>
     ensures value { result ≡ spec.hex_value b }
     ensures within { IfSome result (λ n. n < 16) }
@@ -51,52 +34,6 @@ fn hex_value(b: u8) -> Option<u8>
         97..=102 => Some(b - 87),
         _ => None,
     }
-}
-
-/// How many bytes at the front may stand in identifiers joined by `::`.
-fn path_len(bytes: &[u8]) -> usize
-    ensures len { result ≡ prefix_len spec.is_in_path bytes.now }
-    ensures within { result ≤ length bytes.now }
-{
-    let mut n = 0;
-    for b in bytes {
-        if !is_in_path(*b) {
-            return n;
-        }
-        n += 1;
-    }
-    n
-}
-
-fn digits_len(bytes: &[u8]) -> usize
-    ensures len { result ≡ prefix_len is_digit bytes.now }
-    ensures within { result ≤ length bytes.now }
-{
-    let mut n = 0;
-    for b in bytes {
-        if !is_digit(*b) {
-            return n;
-        }
-        n += 1;
-    }
-    n
-}
-
-/// Whether all of the bytes are identifiers joined by `::`.
-fn is_path(bytes: &[u8]) -> bool
-    ensures { result ≡ spec.is_path path.First bytes.now }
-{
-    let mut place = PathPlace::First;
-    for b in bytes {
-        place = match place {
-            PathPlace::First if begins_word(*b) => PathPlace::Within,
-            PathPlace::Within if is_word_byte(*b) => PathPlace::Within,
-            PathPlace::Within if *b == b':' => PathPlace::Colon,
-            PathPlace::Colon if *b == b':' => PathPlace::First,
-            _ => return false,
-        };
-    }
-    place == PathPlace::Within
 }
 
 // The byte that an escape of two bytes stands for, by its second byte.
@@ -121,18 +58,9 @@ fn text_step(place: TextPlace, b: u8) -> Option<(TextPlace, Option<u8>)>
         TextPlace::Plain if b == b'\\' => Some((TextPlace::Escape, None)),
         TextPlace::Plain => Some((TextPlace::Plain, Some(b))),
         TextPlace::Escape if b == b'x' => Some((TextPlace::High, None)),
-        TextPlace::Escape => match escape_value(b) {
-            Some(value) => Some((TextPlace::Plain, Some(value))),
-            None => None,
-        },
-        TextPlace::High => match hex_value(b) {
-            Some(high) => Some((TextPlace::Low(high), None)),
-            None => None,
-        },
-        TextPlace::Low(high) => match hex_value(b) {
-            Some(low) => Some((TextPlace::Plain, Some(16 * high + low))),
-            None => None,
-        },
+        TextPlace::Escape => Some((TextPlace::Plain, Some(escape_value(b)?))),
+        TextPlace::High => Some((TextPlace::Low(hex_value(b)?), None)),
+        TextPlace::Low(high) => Some((TextPlace::Plain, Some(16 * high + hex_value(b)?))),
     }
 }
 
@@ -168,21 +96,21 @@ fn text_front(alloc: Global, after: &[u8]) -> Result<Front, Memory>
 }
 
 /// A name. A number right behind it begins with its sign, since a digit would belong to the name.
+#[tactic(auto, using(crate::proofs::LexSteps::front_within, crate::proofs::LexSteps::name_some))]
 fn name_front(alloc: Global, bytes: &[u8]) -> Result<Front, Memory>
     ensures value { IfOk result (λ front. front ≡ spec.name_front bytes.now) }
     ensures within { IfOk result (λ front. Fits front (length bytes.now)) }
 {
-    let len = path_len(bytes);
-    let (name, after) = bytes.split_at(len);
-    if is_path(name) && !begins_with(b'-', after) {
-        Ok(Front::Piece(Token::Name(Bytes::from_slice(alloc, name)?), len))
+    let (name, after) = cut_run(ByteClass::Name, bytes);
+    if is_qualified_name(name) && !begins_with(b'-', after) {
+        Ok(Front::Piece(Token::Name(Bytes::from_slice(alloc, name)?), name.len()))
     } else {
         Ok(Front::Nothing)
     }
 }
 
 fn begins_with(b: u8, bytes: &[u8]) -> bool
-    ensures { result ≡ spec.begins_with b bytes.now }
+    ensures { result ≡ head_is (λ first. first == b) bytes.now }
 {
     match bytes {
         [first, ..] => *first == b,
@@ -190,21 +118,19 @@ fn begins_with(b: u8, bytes: &[u8]) -> bool
     }
 }
 
-/// A number, of which this many bytes are its sign.
-fn number_front(alloc: Global, bytes: &[u8], sign: usize) -> Result<Front, Memory>
-    requires { sign ≤ length bytes.now }
-    ensures value { IfOk result (λ front. front ≡ spec.number_front sign bytes.now) }
-    ensures within { IfOk result (λ front. Fits front (length bytes.now)) }
+/// A number whose digits stand behind this sign.
+fn number_front(alloc: Global, sign: &[u8], after: &[u8]) -> Result<Front, Memory>
+    ensures value { IfOk result (λ front. front ≡ spec.number_front sign.now after.now) }
+    ensures within { IfOk result (λ front. Fits front (length sign.now + length after.now)) }
 {
-    let digits = digits_len(bytes.split_at(sign).1);
-    if digits == 0 {
+    let (digits, _) = cut_run(ByteClass::Digit, after);
+    if digits.is_empty() {
         return Ok(Front::Nothing);
     }
-    let len = sign + digits;
-    Ok(Front::Piece(
-        Token::Number(Bytes::from_slice(alloc, bytes.split_at(len).0)?),
-        len,
-    ))
+    let mut number = Bytes::from_slice(alloc, sign)?;
+    number.append(digits)?;
+    let len = number.len();
+    Ok(Front::Piece(Token::Number(number), len))
 }
 
 fn single(b: u8) -> Option<Mark>
@@ -239,10 +165,10 @@ fn mark_front(b: u8, after: &[u8]) -> Front
 }
 
 /// What stands at the front of the rest of a line.
-#[tactic(auto, unfolding(crate::specs::Lex::front_of))]
+#[tactic(auto, unfolding(crate::specs::Lex::first_part))]
 fn front(alloc: Global, bytes: &[u8]) -> Result<Front, Memory>
     requires { 0 < length bytes.now }
-    ensures value { IfOk result (λ front. front ≡ spec.front_of bytes.now) }
+    ensures value { IfOk result (λ front. front ≡ spec.first_part bytes.now) }
     ensures within { IfOk result (λ front. Fits front (length bytes.now)) }
 {
     let first = bytes[0];
@@ -252,9 +178,9 @@ fn front(alloc: Global, bytes: &[u8]) -> Result<Front, Memory>
     } else if begins_word(first) {
         name_front(alloc, bytes)
     } else if is_digit(first) {
-        number_front(alloc, bytes, 0)
+        number_front(alloc, b"", bytes)
     } else if first == b'-' {
-        number_front(alloc, bytes, 1)
+        number_front(alloc, b"-", after)
     } else if first == b'"' {
         text_front(alloc, after)
     } else {

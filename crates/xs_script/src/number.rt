@@ -31,10 +31,7 @@ pub fn number_of(text: &[u8]) -> Option<Number>
             Some(n) if n <= 1 << 63 => Some(Number::Int(negated(n))),
             _ => None,
         },
-        _ => match digits_value(text) {
-            Some(n) => Some(positive(n)),
-            None => None,
-        },
+        _ => Some(positive(digits_value(text)?)),
     }
 }
 

@@ -2,10 +2,11 @@
 ghost use Rattle.std.specs.Prelude.{◌≡◌};
 ghost use Rattle.xs_script.specs.Input.{Reads};
 ghost use Rattle.xs_script.specs.Rules as spec;
-ghost use Rattle.xs_script.specs.View.{act, acts_of, exprs_in, said};
+ghost use Rattle.xs_script.specs.View.{act, acts_of, call_of, exprs_in, said};
 
 use crate::command::{Action, Command, E};
-use crate::cursor::Cursor;
+use crate::cursor::{Cursor, names_sub};
+use crate::stop::add;
 use crate::token::{Kind, Mark, Stop};
 use crate::value::{argument, value, variable};
 use std::alloc::Global;
@@ -18,7 +19,7 @@ fn some_arguments(alloc: Global, cursor: &mut Cursor<'_>, in_sub: bool) -> Resul
     let mut all = Vec::new(alloc);
     for _turn in 0..cursor.left() {
         let e = value(alloc, cursor, in_sub)?;
-        all.push(e)?;
+        add(&mut all, e)?;
         if !cursor.eat(Mark::Comma) {
             cursor.expect(Mark::CloseRound)?;
             return Ok(all);
@@ -40,35 +41,31 @@ fn arguments(alloc: Global, cursor: &mut Cursor<'_>, in_sub: bool) -> Result<Vec
     }
 }
 
-#[tactic(auto, unfolding(crate::specs::Rules::set_action))]
-fn set_action(alloc: Global, cursor: &mut Cursor<'_>) -> Result<Action, Stop>
-    ensures { Reads act (spec.set_action cursor.old) result cursor.new }
-{
-    let k = argument(alloc, cursor)?;
-    cursor.expect(Mark::Equals)?;
-    Ok(Action::Set(k, value(alloc, cursor, true)?))
-}
-
-#[tactic(auto, unfolding(crate::specs::Rules::call_action))]
-fn call_action(alloc: Global, cursor: &mut Cursor<'_>) -> Result<Action, Stop>
-    ensures { Reads act (spec.call_action cursor.old) result cursor.new }
+/// A sub and the arguments of its call.
+#[tactic(auto, unfolding(crate::specs::Rules::call))]
+fn call(alloc: Global, cursor: &mut Cursor<'_>, in_sub: bool) -> Result<(Bytes, Vec<E>), Stop>
+    ensures { Reads call_of (spec.call in_sub cursor.old) result cursor.new }
 {
     let sub = cursor.sub_name(alloc)?;
-    Ok(Action::Call(sub, arguments(alloc, cursor, true)?))
+    let args = arguments(alloc, cursor, in_sub)?;
+    Ok((sub, args))
 }
 
-#[tactic(auto, unfolding(crate::specs::Rules::action))]
+#[tactic(auto, unfolding(crate::specs::Rules::action, crate::specs::Rules::set_action))]
 fn action(alloc: Global, cursor: &mut Cursor<'_>) -> Result<Action, Stop>
     ensures { Reads act (spec.action cursor.old) result cursor.new }
 {
     if cursor.eat_word(b"push") {
         Ok(Action::Push(value(alloc, cursor, true)?))
     } else if cursor.eat_word(b"set") {
-        set_action(alloc, cursor)
+        let k = argument(alloc, cursor)?;
+        cursor.expect(Mark::Equals)?;
+        Ok(Action::Set(k, value(alloc, cursor, true)?))
     } else if cursor.eat_word(b"call") {
-        call_action(alloc, cursor)
+        let (sub, args) = call(alloc, cursor, true)?;
+        Ok(Action::Call(sub, args))
     } else if cursor.eat_word(b"die") {
-        Ok(Action::Die(cursor.text(alloc)?))
+        Ok(Action::Die(cursor.part(alloc, Kind::Text)?))
     } else {
         Err(Stop::Unread)
     }
@@ -82,21 +79,12 @@ fn actions(alloc: Global, cursor: &mut Cursor<'_>) -> Result<Vec<Action>, Stop>
     let mut all = Vec::new(alloc);
     for _turn in 0..cursor.left() {
         let a = action(alloc, cursor)?;
-        all.push(a)?;
+        add(&mut all, a)?;
         if !cursor.eat(Mark::Semicolon) {
             return Ok(all);
         }
     }
     Err(Stop::Unread)
-}
-
-fn names_sub(kind: Kind) -> bool
-    ensures { result ≡ spec.names_sub kind }
-{
-    match kind {
-        Kind::Name | Kind::Text => true,
-        Kind::Number | Kind::Mark | Kind::End => false,
-    }
 }
 
 /// Whether a call comes next. The word `call` alone may be a variable.
@@ -107,48 +95,19 @@ fn sees_call(cursor: &Cursor<'_>) -> bool
     cursor.sees_word(b"call") && names_sub(cursor.kind_behind())
 }
 
-#[tactic(auto, unfolding(crate::specs::Rules::call_value))]
-fn call_value(
-    alloc: Global,
-    cursor: &mut Cursor<'_>,
-    line: u32,
-    name: Bytes,
-) -> Result<Command, Stop>
-    ensures { Reads said (spec.call_value line name cursor.old) result cursor.new }
-{
-    cursor.eat_word(b"call");
-    let sub = cursor.sub_name(alloc)?;
-    Ok(Command::MyCall(line, name, sub, arguments(alloc, cursor, false)?))
-}
-
 #[tactic(auto, unfolding(crate::specs::Rules::my_command))]
 fn my_command(alloc: Global, cursor: &mut Cursor<'_>, line: u32) -> Result<Command, Stop>
     ensures { Reads said (spec.my_command line cursor.old) result cursor.new }
 {
-    let name = cursor.name(alloc)?;
+    let name = cursor.part(alloc, Kind::Name)?;
     cursor.expect(Mark::Equals)?;
     if sees_call(cursor) {
-        call_value(alloc, cursor, line, name)
+        cursor.eat_word(b"call");
+        let (sub, args) = call(alloc, cursor, false)?;
+        Ok(Command::MyCall(line, name, sub, args))
     } else {
         Ok(Command::My(line, name, value(alloc, cursor, false)?))
     }
-}
-
-#[tactic(auto, unfolding(crate::specs::Rules::call_command))]
-fn call_command(alloc: Global, cursor: &mut Cursor<'_>, line: u32) -> Result<Command, Stop>
-    ensures { Reads said (spec.call_command line cursor.old) result cursor.new }
-{
-    let sub = cursor.sub_name(alloc)?;
-    Ok(Command::Call(line, sub, arguments(alloc, cursor, false)?))
-}
-
-#[tactic(auto, unfolding(crate::specs::Rules::isa_command))]
-fn isa_command(alloc: Global, cursor: &mut Cursor<'_>, line: u32) -> Result<Command, Stop>
-    ensures { Reads said (spec.isa_command line cursor.old) result cursor.new }
-{
-    let class = cursor.name(alloc)?;
-    let parent = cursor.name(alloc)?;
-    Ok(Command::Isa(line, class, parent))
 }
 
 #[tactic(auto, unfolding(crate::specs::Rules::sub_command))]
@@ -176,16 +135,19 @@ fn variable_command(alloc: Global, cursor: &mut Cursor<'_>, line: u32) -> Result
     }
 }
 
-#[tactic(auto, unfolding(crate::specs::Rules::by_word))]
+#[tactic(auto, unfolding(crate::specs::Rules::by_word, crate::specs::Rules::isa_command))]
 fn by_word(alloc: Global, cursor: &mut Cursor<'_>, line: u32) -> Result<Command, Stop>
     ensures { Reads said (spec.by_word line cursor.old) result cursor.new }
 {
     if cursor.eat_word(b"my") {
         my_command(alloc, cursor, line)
     } else if cursor.eat_word(b"call") {
-        call_command(alloc, cursor, line)
+        let (sub, args) = call(alloc, cursor, false)?;
+        Ok(Command::Call(line, sub, args))
     } else if cursor.eat_word(b"isa") {
-        isa_command(alloc, cursor, line)
+        let class = cursor.part(alloc, Kind::Name)?;
+        let parent = cursor.part(alloc, Kind::Name)?;
+        Ok(Command::Isa(line, class, parent))
     } else if cursor.eat_word(b"sub") {
         sub_command(alloc, cursor, line)
     } else {

@@ -1,9 +1,8 @@
-//! Conversions into the one error of the readers of a line.
-ghost use Rattle.std.specs.Prelude.{◌≡◌};
+//! Want of memory in the readers of a line.
+ghost use Rattle.std.specs.Prelude.{◌≡◌, [], ◌∷◌, ◌++◌, OnOk};
 ghost use Rattle.xs_script.specs.declared.token.Stop.TheVariants as stop;
 
 use crate::token::Stop;
-use std::alloc::{AllocError, AllocFailed};
 use xs_base::Memory;
 
 impl From<Memory> for Stop {
@@ -14,18 +13,10 @@ impl From<Memory> for Stop {
     }
 }
 
-impl From<AllocError> for Stop {
-    ghost from_gives = { λ _ e. e ≡ stop.Memory };
-
-    fn from(_: AllocError) -> Stop {
-        Stop::Memory
-    }
-}
-
-impl<T: Drop> From<AllocFailed<T>> for Stop {
-    ghost from_gives = { λ _ e. e ≡ stop.Memory };
-
-    fn from(_: AllocFailed<T>) -> Stop {
-        Stop::Memory
-    }
+/// Adds an element at the end.
+pub fn add<T: Drop>(list: &mut Vec<T>, item: T) -> Result<(), Memory>
+    ensures { OnOk result (list.new.items ≡ list.old.items ++ item ∷ []) }
+{
+    list.push(item)?;
+    Ok(())
 }

@@ -322,26 +322,6 @@ fn reads_the_table(rt: HostRuntime) -> Result<(), Fail> {
     Ok(())
 }
 
-// A variable and so many commands that show it.
-fn shows(alloc: Global, count: u32) -> Result<Bytes, Memory> {
-    let mut out = Bytes::from_slice(alloc, b"my x = 1\n")?;
-    for _ in 0..count {
-        out.append(b"show x\n")?;
-    }
-    Ok(out)
-}
-
-// So many declarations with numbered names.
-fn declarations(alloc: Global, head: &[u8], tail: &[u8], count: u32) -> Result<Bytes, Memory> {
-    let mut out = Bytes::new(alloc);
-    for i in 0..count {
-        out.append(head)?;
-        append_number(alloc, &mut out, u64::from(i))?;
-        out.append(tail)?;
-    }
-    Ok(out)
-}
-
 // How many commands a script has, or the line of its fault and its code.
 fn counted(alloc: Global, src: &Bytes) -> Result<(usize, u16), Memory> {
     if src.len() > 1_048_576 {
@@ -354,27 +334,26 @@ fn counted(alloc: Global, src: &Bytes) -> Result<(usize, u16), Memory> {
     }
 }
 
+// What a script of so many commands with numbered names counts.
+fn declared(alloc: Global, head: &[u8], tail: &[u8], count: u32) -> Result<(usize, u16), Memory> {
+    let mut out = Bytes::new(alloc);
+    for i in 0..count {
+        out.append(head)?;
+        append_number(alloc, &mut out, u64::from(i))?;
+        out.append(tail)?;
+    }
+    counted(alloc, &out)
+}
+
 #[test]
 fn keeps_the_limits(rt: HostRuntime) -> Result<(), Fail> {
     let alloc = rt.alloc();
-    assert_eq!(rt; counted(alloc, &shows(alloc, 9_999)?)?, (10_000, 0));
-    assert_eq!(rt; counted(alloc, &shows(alloc, 10_000)?)?, (10_001, 956));
-    assert_eq!(rt;
-        counted(alloc, &declarations(alloc, b"my v", b" = 1\n", 256)?)?,
-        (256, 0)
-    );
-    assert_eq!(rt;
-        counted(alloc, &declarations(alloc, b"my v", b" = 1\n", 257)?)?,
-        (257, 956)
-    );
-    assert_eq!(rt;
-        counted(alloc, &declarations(alloc, b"sub s", b" = push 1\n", 256)?)?,
-        (256, 0)
-    );
-    assert_eq!(rt;
-        counted(alloc, &declarations(alloc, b"sub s", b" = push 1\n", 257)?)?,
-        (257, 956)
-    );
+    assert_eq!(rt; declared(alloc, b"isa A B", b"\n", 10_000)?, (10_000, 0));
+    assert_eq!(rt; declared(alloc, b"isa A B", b"\n", 10_001)?, (10_001, 956));
+    assert_eq!(rt; declared(alloc, b"my v", b" = 1\n", 256)?, (256, 0));
+    assert_eq!(rt; declared(alloc, b"my v", b" = 1\n", 257)?, (257, 956));
+    assert_eq!(rt; declared(alloc, b"sub s", b" = push 1\n", 256)?, (256, 0));
+    assert_eq!(rt; declared(alloc, b"sub s", b" = push 1\n", 257)?, (257, 956));
     Ok(())
 }
 

@@ -1,5 +1,4 @@
 //! The text that shows a plain value.
-ghost use Rattle.std.specs.Fmt.{decimal, signed_decimal};
 ghost use Rattle.std.specs.Prelude.{◌≡◌, ◌++◌, ◌<◌, IfOk, OnOk, take};
 ghost use Rattle.xs_script.specs.ValueText.{hex_digit, quoted_text, shown_byte, value_text_of};
 
@@ -14,24 +13,10 @@ pub fn value_text(alloc: Global, p: &Plain) -> Result<Bytes, Memory>
 {
     match p {
         Plain::Undef => Bytes::from_slice(alloc, b"undef"),
-        Plain::Int(n) => signed_text(alloc, *n),
-        Plain::Uns(n) => unsigned_text(alloc, *n),
+        Plain::Int(n) => Bytes::from_slice(alloc, n.to_string(alloc)?.as_bytes()),
+        Plain::Uns(n) => Bytes::from_slice(alloc, n.to_string(alloc)?.as_bytes()),
         Plain::Text(text) => quoted(alloc, text.as_slice()),
     }
-}
-
-fn signed_text(alloc: Global, n: i64) -> Result<Bytes, Memory>
-    ensures { IfOk result (λ text. text ≡ signed_decimal n) }
-{
-    let text = n.to_string(alloc)?;
-    Bytes::from_slice(alloc, text.as_bytes())
-}
-
-fn unsigned_text(alloc: Global, n: u64) -> Result<Bytes, Memory>
-    ensures { IfOk result (λ text. text ≡ decimal n) }
-{
-    let text = n.to_string(alloc)?;
-    Bytes::from_slice(alloc, text.as_bytes())
 }
 
 /// A text in quotes: bytes 32 to 126 stand for themselves, but `"` and `\` have a `\` before them, and any other byte is

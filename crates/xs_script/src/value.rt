@@ -6,13 +6,14 @@ ghost use Rattle.xs_script.specs.Partial.{partial_of};
 ghost use Rattle.xs_script.specs.Value as spec;
 ghost use Rattle.xs_script.specs.View.{plain};
 
-use crate::around::{Open, depth, pop_open, push_open};
+use crate::around::{Open, depth, pop_open};
 use crate::command::{E, Number};
 use crate::cursor::Cursor;
 use crate::number::{argument_of, number_of};
+use crate::stop::add;
 use crate::token::{Kind, Mark, Stop};
-use std::alloc::{AllocError, Global};
-use xs_base::Bytes;
+use std::alloc::Global;
+use xs_base::{Bytes, Memory};
 
 /// How many brackets may be open in an expression.
 pub const MAX_NESTING: usize = 16;
@@ -28,7 +29,7 @@ pub struct Partial {
 pub fn variable(alloc: Global, cursor: &mut Cursor<'_>) -> Result<Bytes, Stop>
     ensures { Reads (λ b. b) (spec.variable cursor.old) result cursor.new }
 {
-    let name = cursor.name(alloc)?;
+    let name = cursor.part(alloc, Kind::Name)?;
     cursor.named(alloc, name.as_slice())?;
     Ok(name)
 }
@@ -37,7 +38,7 @@ pub fn variable(alloc: Global, cursor: &mut Cursor<'_>) -> Result<Bytes, Stop>
 fn whole_number(alloc: Global, cursor: &mut Cursor<'_>) -> Result<Number, Stop>
     ensures { Reads (λ n. n) (spec.whole_number cursor.old) result cursor.new }
 {
-    let text = cursor.number(alloc)?;
+    let text = cursor.part(alloc, Kind::Number)?;
     match number_of(text.as_slice()) {
         Some(n) => Ok(n),
         None => {
@@ -54,7 +55,7 @@ pub fn argument(alloc: Global, cursor: &mut Cursor<'_>) -> Result<u32, Stop>
     if !cursor.eat_word(b"arg") {
         return Err(Stop::Unread);
     }
-    let text = cursor.number(alloc)?;
+    let text = cursor.part(alloc, Kind::Number)?;
     match argument_of(text.as_slice()) {
         Some(n) => Ok(n),
         None => {
@@ -96,7 +97,7 @@ fn simple(alloc: Global, cursor: &mut Cursor<'_>, in_sub: bool) -> Result<E, Sto
     match cursor.kind() {
         Kind::Name => by_name(alloc, cursor, in_sub),
         Kind::Number => Ok(E::Number(whole_number(alloc, cursor)?)),
-        Kind::Text => Ok(E::Text(cursor.text(alloc)?)),
+        Kind::Text => Ok(E::Text(cursor.part(alloc, Kind::Text)?)),
         Kind::Mark => reference(alloc, cursor, in_sub),
         Kind::End => Err(Stop::Unread),
     }
@@ -107,24 +108,23 @@ fn simple(alloc: Global, cursor: &mut Cursor<'_>, in_sub: bool) -> Result<E, Sto
 fn finished(around: Vec<Open>, e: E) -> Partial
     ensures { partial_of result ≡ spec.finished (around_of around.items) (plain e) }
 {
-    if depth(&around) < MAX_NESTING {
-        Partial {
-            around,
-            ended: Some(e),
-        }
+    let kept = if depth(&around) < MAX_NESTING {
+        e
     } else {
-        Partial {
-            around,
-            ended: Some(E::Undef),
-        }
+        E::Undef
+    };
+    Partial {
+        around,
+        ended: Some(kept),
     }
 }
 
 // An expression begins in this bracket.
-fn inside(mut around: Vec<Open>, inner: Open) -> Result<Partial, AllocError>
+#[tactic(auto, using(crate::proofs::Arounds::arounds))]
+fn inside(mut around: Vec<Open>, inner: Open) -> Result<Partial, Memory>
     ensures { IfOk result (λ partial. partial_of partial ≡ spec.inside (bracket inner) (around_of around.items)) }
 {
-    push_open(&mut around, inner)?;
+    add(&mut around, inner)?;
     Ok(Partial {
         around,
         ended: None,
@@ -135,7 +135,7 @@ fn inside(mut around: Vec<Open>, inner: Open) -> Result<Partial, AllocError>
 fn key(alloc: Global, cursor: &mut Cursor<'_>) -> Result<Bytes, Stop>
     ensures { Reads (λ b. b) (spec.key cursor.old) result cursor.new }
 {
-    let name = cursor.text(alloc)?;
+    let name = cursor.part(alloc, Kind::Text)?;
     cursor.expect(Mark::Arrow)?;
     Ok(name)
 }
@@ -229,11 +229,11 @@ fn follow(
 {
     match inner {
         Open::List(mut items) => {
-            items.push(e)?;
+            add(&mut items, e)?;
             follow_list(cursor, items, around)
         }
         Open::Hash(mut entries, name) => {
-            entries.push((name, e))?;
+            add(&mut entries, (name, e))?;
             follow_hash(alloc, cursor, entries, around)
         }
     }

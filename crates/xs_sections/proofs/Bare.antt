@@ -1,15 +1,16 @@
 -- The lines of the XS part that are no comments, from the first MODULE line on.
-use Rattle.std.proofs.Common.{◌≡◌, ℕ, Bool, true, false, ◌&&◌, ◌==◌, List, [], ◌∷◌, refl, ap, sym, subst, ◌∙◌, arith}
+use Rattle.std.proofs.Common.{◌≡◌, ℕ, Bool, true, false, ◌==◌, List, [], ◌∷◌, refl, ap, sym, subst, ◌∙◌, arith}
 use Rattle.std.specs.List.{list_all}
-use Rattle.std.specs.Prelude.{codes}
+use Rattle.std.specs.Prelude.{codes, if◌then◌else◌, is_some, None, option_and_then, Some}
 use Rattle.std.specs.Str.{bytes_eq}
-use Rattle.std.proofs.lemmas.Bool.{false≢true}
+use Rattle.std.proofs.lemmas.Bool.{and_parts, false≢true}
 use Rattle.std.proofs.lemmas.Bool.Decides.{nat_tests}
 use Rattle.std.proofs.lemmas.Slice.Eq.{bytes_eq-Decides}
 use Rattle.xs_base.specs.declared.place.Line.{Line}
-use Rattle.xs_base.specs.Scanning.{begins_word, behind_blanks, is_blank, is_identifier, is_word_byte}
-use Rattle.xs_sections.specs.Text.{front, begins_with_byte}
-use Rattle.xs_sections.specs.Marks.{is_comment, is_module_line}
+use Rattle.xs_base.specs.Scanning.{after_word, begins_word, is_blank, is_identifier, is_word_byte}
+use Rattle.xs_base.specs.Runs.{behind_blanks, front_of}
+use Rattle.xs_base.specs.declared.runs.ByteClass.TheVariants.{Word}
+use Rattle.xs_sections.specs.Marks.{begins_with, is_comment, is_module_line}
 use Rattle.xs_sections.specs.Classes.{Tag, class_of, place_behind, pod_behind, gap_behind, further_behind, blank_behind, tag_of, tags_from, tags_of}
 use Rattle.xs_sections.specs.Laws.{IsOf, from_module, without_comments}
 use Rattle.xs_sections.specs.Steps.{is_c_part}
@@ -18,12 +19,10 @@ use Rattle.xs_sections.specs.declared.class.Class.TheVariants as class
 use Rattle.xs_sections.specs.declared.class.Place.{Place}
 use Rattle.xs_sections.specs.declared.class.Place.TheVariants as place
 use Rattle.xs_sections.proofs.CPart.{kept}
-use Rattle.xs_sections.proofs.Fits.{Fits, Can, class_of_fits}
+use Rattle.xs_sections.proofs.Fits.{Fits, Can, c_part_fits, class_of_fits}
+use Rattle.xs_sections.proofs.Places.{tag, gap_c}
 use Rattle.xs_sections.proofs.Meanings.{Means, StandsAt, IsEnd, class_of_means, end_identifier}
 use Rattle.xs_sections.proofs.XsParts.{bare}
-
-abbrev tag : Class → Line → Bool → Tag
-tag class line starts = record { line = line; class = class; starts = starts }
 
 -- ---- what is no comment
 
@@ -31,13 +30,13 @@ tag class line starts = record { line = line; class = class; starts = starts }
 module_no_comment : (text : List ℕ) → is_module_line text ≡ true → is_comment text ≡ false
 module_no_comment text h = by_text (behind_blanks text) h
   where
-    by_byte : (c : Bool) (b : ℕ) (bs : List ℕ) → (b == 35) ≡ c → bytes_eq (front is_word_byte (b ∷ bs)) (codes "MODULE") ≡ true → c ≡ false
+    by_byte : (c : Bool) (b : ℕ) (bs : List ℕ) → (b == 35) ≡ c → bytes_eq (front_of Word (b ∷ bs)) (codes "MODULE") ≡ true → is_some (option_and_then (after_word []) (if c then Some bs else None)) ≡ false
     by_byte true b bs e m =
         let at : is_word_byte b ≡ false = grind (arith, nat_tests) in
-        let none : bytes_eq (front is_word_byte (b ∷ bs)) (codes "MODULE") ≡ false = rw at refl in absurd (false≢true (sym none ∙ m))
+        let none : bytes_eq (front_of Word (b ∷ bs)) (codes "MODULE") ≡ false = rw at refl in absurd (false≢true (sym none ∙ m))
     by_byte false b bs e m = refl
 
-    by_text : (rest : List ℕ) → bytes_eq (front is_word_byte rest) (codes "MODULE") ≡ true → begins_with_byte (λ b. b == 35) rest ≡ false
+    by_text : (rest : List ℕ) → bytes_eq (front_of Word rest) (codes "MODULE") ≡ true → begins_with (codes "#") rest ≡ false
     by_text [] m = refl
     by_text (b ∷ bs) m = by_byte (b == 35) b bs refl m
 
@@ -46,15 +45,11 @@ word_no_comment : (b : ℕ) (bs : List ℕ) → begins_word b ≡ true → is_co
 word_no_comment b bs h =
     let a : is_blank b ≡ false = grind (arith, nat_tests) in
     let c : (b == 35) ≡ false = grind (arith, nat_tests) in
-    rw a c
-
-and_left : (a b : Bool) → (a && b) ≡ true → a ≡ true
-and_left true b e = refl
-and_left false b e = e
+    rw (a, c) refl
 
 identifier_no_comment : (text : List ℕ) → is_identifier text ≡ true → is_comment text ≡ false
 identifier_no_comment [] h = refl
-identifier_no_comment (b ∷ bs) h = word_no_comment b bs (and_left (begins_word b) (list_all is_word_byte bs) h)
+identifier_no_comment (b ∷ bs) h = word_no_comment b bs (and_parts (begins_word b) (list_all is_word_byte bs) h).0
 
 -- the end word of the block that stands open is an identifier
 abbrev HasWord : Place → Type 0
@@ -64,28 +59,19 @@ HasWord _ = Unit {0}
 end_no_comment : (at : Place) (text : List ℕ) → HasWord at → IsEnd at text true → is_comment text ≡ false
 end_no_comment (place.Map end) text w e =
     let same : text ≡ end = (bytes_eq-Decides text end).0 e in rw same (identifier_no_comment end w)
-end_no_comment place.CPart text w e = absurd e
-end_no_comment place.Between text w e = absurd e
-end_no_comment place.Head text w e = absurd e
-end_no_comment place.HeadGap text w e = absurd e
-end_no_comment place.Body text w e = absurd e
-end_no_comment place.BodyGap text w e = absurd e
-end_no_comment place.Boot text w e = absurd e
+end_no_comment _ text w e = absurd e
 
 -- a place of the XS part
 record InXs (at : Place) : Type 0 where
   no_c : is_c_part at ≡ false
   word : HasWord at
 
+gap_word : (at : Place) → HasWord at → HasWord (gap_behind at)
+gap_word place.Head w = tt
+gap_word _ w = w
+
 gap_xs : (at : Place) → InXs at → InXs (gap_behind at)
-gap_xs place.Head x = record { no_c = refl; word = tt }
-gap_xs place.CPart x = x
-gap_xs place.Between x = x
-gap_xs place.HeadGap x = x
-gap_xs place.Body x = x
-gap_xs place.BodyGap x = x
-gap_xs place.Boot x = x
-gap_xs (place.Map end) x = x
+gap_xs at x = record { no_c = gap_c at ∙ x.no_c; word = gap_word at x.word }
 
 further_xs : (at : Place) → InXs (further_behind at)
 further_xs place.Boot = record { no_c = refl; word = tt }
@@ -147,23 +133,11 @@ from_step class.PodBegin l starts ts is fits ih xs = ih refl
 from_step class.PodLine l starts ts is fits ih xs = ih refl
 from_step class.PodEnd l starts ts is fits ih xs = ih refl
 from_step class.C l starts ts is fits ih xs = rw is.1 (ih refl)
-from_step class.Comment l starts ts is fits ih xs = absurd (false≢true (sym fits))
-from_step class.Directive l starts ts is fits ih xs = absurd (false≢true (sym fits))
 from_step (class.Module names) l starts ts is fits ih xs =
     rw is.first_word (takes l ts (module_no_comment l.text is.first_word) (xs (record { no_c = refl; word = tt })))
 from_step class.BadModule l starts ts is fits ih xs =
     rw is.first_word (takes l ts (module_no_comment l.text is.first_word) (xs (record { no_c = refl; word = tt })))
-from_step class.Outside l starts ts is fits ih xs = absurd (false≢true (sym fits.no_c))
-from_step class.Keyword l starts ts is fits ih xs = absurd (false≢true (sym fits.no_c))
-from_step class.BadValue l starts ts is fits ih xs = absurd (false≢true (sym fits.no_c))
-from_step (class.LeftOut word) l starts ts is fits ih xs = absurd (false≢true (sym fits.no_c))
-from_step (class.MapBegin end) l starts ts is fits ih xs = absurd (false≢true (sym fits.no_c))
-from_step class.MapLine l starts ts is fits ih xs = absurd (false≢true fits)
-from_step class.MapEnd l starts ts is fits ih xs = absurd (false≢true fits)
-from_step class.First l starts ts is fits ih xs = absurd (false≢true (sym fits.no_c))
-from_step class.FirstOfBoot l starts ts is fits ih xs = absurd (false≢true (sym fits.no_c))
-from_step class.Further l starts ts is fits ih xs = absurd (false≢true (sym fits.no_c))
-from_step class.Blank l starts ts is fits ih xs = absurd (false≢true (sym fits.no_c))
+from_step c l starts ts is fits ih xs = absurd (false≢true (c_part_fits c (l ∷ []) fits))
 
 from_c : (ls : List Line) (pod : Bool) → FromModule (tags_from pod place.CPart ls)
 unfolding tags_from

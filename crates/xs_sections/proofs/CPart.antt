@@ -5,7 +5,7 @@ use Rattle.std.proofs.lemmas.List.Elements.{All-nil, All-cons, All-append}
 use Rattle.xs_base.specs.declared.fault.Fault.{Fault}
 use Rattle.xs_base.specs.declared.place.Line.{Line}
 use Rattle.xs_sections.specs.Marks.{begins_pod, ends_pod}
-use Rattle.xs_sections.specs.Classes.{Tag, class_of, class_at, is_head, opens_paragraph, place_behind, pod_behind, gap_behind, further_behind, blank_behind, tag_of, tags_from, tags_of}
+use Rattle.xs_sections.specs.Classes.{Tag, class_of, class_at, is_head, opens_paragraph, place_behind, pod_behind, tag_of, tags_from, tags_of}
 use Rattle.xs_sections.specs.Cut.{lines_in, c_lines}
 use Rattle.xs_sections.specs.Faults.{is_pod_begin, is_pod_end, some_line, unless_behind, pod_fault}
 use Rattle.xs_sections.specs.Laws.{IsOf, WithoutPod, is_no_pod, before_module}
@@ -15,11 +15,9 @@ use Rattle.xs_sections.specs.declared.class.Class.{Class}
 use Rattle.xs_sections.specs.declared.class.Class.TheVariants as class
 use Rattle.xs_sections.specs.declared.class.Place.{Place}
 use Rattle.xs_sections.specs.declared.class.Place.TheVariants as place
-use Rattle.xs_sections.proofs.Fits.{Fits, Can, class_of_fits}
+use Rattle.xs_sections.proofs.Fits.{Fits, Can, c_part_fits, class_of_fits}
+use Rattle.xs_sections.proofs.Places.{tag, gap_c, no_c_behind, no_c_blank}
 use Rattle.xs_sections.proofs.Meanings.{Means, MeansOutside, StandsAt, class_of_means, class_at_means}
-
-abbrev tag : Class → Line → Bool → Tag
-tag class line starts = record { line = line; class = class; starts = starts }
 
 abbrev pub kept : List Tag → List Line
 kept ts = lines_in is_no_pod ts
@@ -36,17 +34,7 @@ no_c_step class.Comment l starts at ts stands fits gone ih = ih gone
 no_c_step class.Directive l starts at ts stands fits gone ih = ih gone
 no_c_step (class.Module names) l starts at ts stands fits gone ih = ih refl
 no_c_step class.BadModule l starts at ts stands fits gone ih = ih refl
-no_c_step class.Outside l starts at ts stands fits gone ih = ih (gap at gone)
-  where
-    gap : (at : Place) → is_c_part at ≡ false → is_c_part (gap_behind at) ≡ false
-    gap place.Head h = refl
-    gap place.CPart h = h
-    gap place.Between h = refl
-    gap place.HeadGap h = refl
-    gap place.Body h = refl
-    gap place.BodyGap h = refl
-    gap place.Boot h = refl
-    gap (place.Map end) h = refl
+no_c_step class.Outside l starts at ts stands fits gone ih = ih (gap_c at ∙ gone)
 no_c_step class.Keyword l starts at ts stands fits gone ih = ih refl
 no_c_step class.BadValue l starts at ts stands fits gone ih = ih refl
 no_c_step (class.LeftOut word) l starts at ts stands fits gone ih = ih refl
@@ -55,16 +43,8 @@ no_c_step class.MapLine l starts at ts stands fits gone ih = ih gone
 no_c_step class.MapEnd l starts at ts stands fits gone ih = ih refl
 no_c_step class.First l starts at ts stands fits gone ih = ih refl
 no_c_step class.FirstOfBoot l starts at ts stands fits gone ih = ih refl
-no_c_step class.Further l starts at ts stands fits gone ih = ih (further at)
-  where
-    further : (at : Place) → is_c_part (further_behind at) ≡ false
-    further place.Boot = refl
-    further _ = refl
-no_c_step class.Blank l starts at ts stands fits gone ih = ih (blank at)
-  where
-    blank : (at : Place) → is_c_part (blank_behind at) ≡ false
-    blank place.Boot = refl
-    blank _ = refl
+no_c_step class.Further l starts at ts stands fits gone ih = ih (no_c_behind at)
+no_c_step class.Blank l starts at ts stands fits gone ih = ih (no_c_blank at)
 
 no_c : (ls : List Line) (pod : Bool) (at : Place) → is_c_part at ≡ false → c_lines (tags_from pod at ls) ≡ []
 unfolding tags_from
@@ -83,21 +63,9 @@ c_step class.PodBegin l starts ts is fits ih none = ih refl
 c_step class.PodLine l starts ts is fits ih none = ih refl
 c_step class.PodEnd l starts ts is fits ih none = ih refl
 c_step class.C l starts ts is fits ih none = rw is.1 (ap (λ (ls : List Line). l ∷ ls) (ih refl))
-c_step class.Comment l starts ts is fits ih none = absurd (false≢true (sym fits))
-c_step class.Directive l starts ts is fits ih none = absurd (false≢true (sym fits))
 c_step (class.Module names) l starts ts is fits ih none = rw is.first_word (none refl)
 c_step class.BadModule l starts ts is fits ih none = rw is.first_word (none refl)
-c_step class.Outside l starts ts is fits ih none = absurd (false≢true (sym fits.no_c))
-c_step class.Keyword l starts ts is fits ih none = absurd (false≢true (sym fits.no_c))
-c_step class.BadValue l starts ts is fits ih none = absurd (false≢true (sym fits.no_c))
-c_step (class.LeftOut word) l starts ts is fits ih none = absurd (false≢true (sym fits.no_c))
-c_step (class.MapBegin end) l starts ts is fits ih none = absurd (false≢true (sym fits.no_c))
-c_step class.MapLine l starts ts is fits ih none = absurd (false≢true fits)
-c_step class.MapEnd l starts ts is fits ih none = absurd (false≢true fits)
-c_step class.First l starts ts is fits ih none = absurd (false≢true (sym fits.no_c))
-c_step class.FirstOfBoot l starts ts is fits ih none = absurd (false≢true (sym fits.no_c))
-c_step class.Further l starts ts is fits ih none = absurd (false≢true (sym fits.no_c))
-c_step class.Blank l starts ts is fits ih none = absurd (false≢true (sym fits.no_c))
+c_step c l starts ts is fits ih none = absurd (false≢true (c_part_fits c (l ∷ []) fits))
 
 pub c_part_is : (ls : List Line) (pod : Bool) → c_lines (tags_from pod place.CPart ls) ≡ before_module (kept (tags_from pod place.CPart ls))
 unfolding tags_from

@@ -1,10 +1,12 @@
 -- Which classes a line can have at a place.
-use Rattle.std.proofs.Common.{◌≡◌, ℕ, Bool, true, false, not, ◌&&◌, ◌||◌, ◌==◌, if◌then◌else◌, List, [], ◌∷◌, ◌++◌, Option, None, Some, refl}
+use Rattle.std.proofs.Common.{◌≡◌, ℕ, Bool, true, false, not, ◌&&◌, ◌||◌, ◌==◌, if◌then◌else◌, List, [], ◌∷◌, ◌++◌, Option, None, Some, refl, sym}
 use Rattle.std.specs.Prelude.{codes}
 use Rattle.std.specs.Str.{bytes_eq}
 use Rattle.xs_base.specs.declared.place.Line.{Line}
-use Rattle.xs_base.specs.Scanning.{behind_blanks, is_blank_line}
-use Rattle.xs_sections.specs.Text.{front, behind_front, begins_with_byte, is_capital}
+use Rattle.xs_base.specs.Scanning.{is_blank_line}
+use Rattle.xs_base.specs.Runs.{behind, behind_blanks, front_of}
+use Rattle.xs_base.specs.declared.runs.ByteClass.TheVariants.{Capital}
+use Rattle.xs_base.specs.Names.{is_among}
 use Rattle.xs_sections.specs.Marks.{begins_pod, ends_pod, is_comment, is_directive, is_module_line, begins_with}
 use Rattle.xs_sections.specs.ModuleLine.{module_class, class_by_names, module_names}
 use Rattle.xs_sections.specs.Keywords as keyword
@@ -64,6 +66,38 @@ Fits at lines class.FirstOfBoot = IsHead at
 Fits at lines class.Further = IsGoing at lines
 Fits at lines class.Blank = IsGoing at lines
 
+-- the classes of the lines of the C part, and of the line that ends it
+abbrev pub is_in_c : Class → Bool
+is_in_c class.PodBegin = true
+is_in_c class.PodLine = true
+is_in_c class.PodEnd = true
+is_in_c class.C = true
+is_in_c (class.Module names) = true
+is_in_c class.BadModule = true
+is_in_c _ = false
+
+-- A line of another class does not stand in the C part.
+pub c_part_fits : (c : Class) (lines : List Line) → Fits place.CPart lines c → is_in_c c ≡ true
+c_part_fits class.PodBegin lines fits = refl
+c_part_fits class.PodLine lines fits = refl
+c_part_fits class.PodEnd lines fits = refl
+c_part_fits class.C lines fits = refl
+c_part_fits class.Comment lines fits = sym fits
+c_part_fits class.Directive lines fits = sym fits
+c_part_fits (class.Module names) lines fits = refl
+c_part_fits class.BadModule lines fits = refl
+c_part_fits class.Outside lines fits = sym fits.no_c
+c_part_fits class.Keyword lines fits = sym fits.no_c
+c_part_fits class.BadValue lines fits = sym fits.no_c
+c_part_fits (class.LeftOut word) lines fits = sym fits.no_c
+c_part_fits (class.MapBegin end) lines fits = sym fits.no_c
+c_part_fits class.MapLine lines fits = fits
+c_part_fits class.MapEnd lines fits = fits
+c_part_fits class.First lines fits = sym fits.no_c
+c_part_fits class.FirstOfBoot lines fits = sym fits.no_c
+c_part_fits class.Further lines fits = sym fits.no_c
+c_part_fits class.Blank lines fits = sym fits.no_c
+
 -- the same as a record, so that the class can be read from it
 pub record Can (at : Place) (lines : List Line) (class : Class) : Type 0 where
   pub fits : Fits at lines class
@@ -101,20 +135,20 @@ module _ (at : Place) (lines : List Line) where
     map_fits (Some word) = can (class.MapBegin word) h
 
     word_fits : (word value line : List ℕ) → F (keyword.word_class word value line)
-    unfolding keyword.word_class
+    unfolding keyword.word_class keyword.left_out_class
     word_fits word value line =
         by_if (bytes_eq word (codes "PROTOTYPES") || bytes_eq word (codes "VERSIONCHECK")) (value_fits (keyword.is_switch (keyword.only_word value)))
         (by_if (bytes_eq word (codes "REQUIRE")) (value_fits (keyword.is_some_word (keyword.only_word value)))
         (by_if (bytes_eq word (codes "FALLBACK")) (value_fits (keyword.is_fallback (keyword.only_word value)))
         (by_if (bytes_eq word (codes "TYPEMAP")) (map_fits (keyword.block_end (keyword.only_word value)))
-        (by_if (keyword.is_left_out word && not (begins_with_byte (λ b. b == 58) value)) (can (class.LeftOut word) h) (text_fits line)))))
+        (by_if (is_among keyword.left_out_words word && not (begins_with (codes ":") value)) (can (class.LeftOut word) h) (text_fits line)))))
 
     behind_word_fits : (word more line : List ℕ) → F (keyword.class_behind_word word more line)
     behind_word_fits word [] line = text_fits line
     behind_word_fits word (b ∷ value) line = by_if (b == 58) (word_fits word value line) (text_fits line)
 
     head_fits : (line : List ℕ) → F (keyword.head_class line)
-    head_fits line = behind_word_fits (front is_capital line) (behind_blanks (behind_front is_capital line)) line
+    head_fits line = behind_word_fits (front_of Capital line) (behind_blanks (behind Capital line)) line
 
   paragraph_fits : IsHead at → Good at lines → (text : List ℕ) → F (paragraph_class at text)
   paragraph_fits h good text = by_text (is_in_text at) refl

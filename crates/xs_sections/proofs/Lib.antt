@@ -1,3 +1,4 @@
+pub mod Places
 pub mod Fits
 pub mod Whole
 pub mod Meanings

@@ -3,8 +3,10 @@ use Rattle.std.proofs.Common.{◌≡◌, ℕ, Bool, true, false, not, ◌&&◌, 
 use Rattle.std.specs.Prelude.{codes, option_and_then}
 use Rattle.std.specs.Str.{bytes_eq}
 use Rattle.std.proofs.lemmas.Bool.{false≢true}
-use Rattle.xs_base.specs.Scanning.{after_word, behind_blanks, is_blank_line, is_identifier, is_word_byte}
-use Rattle.xs_sections.specs.Text.{front, behind_front, begins_with_byte, is_capital}
+use Rattle.xs_base.specs.Scanning.{after_word, is_blank_line, is_identifier}
+use Rattle.xs_base.specs.Runs.{behind, behind_blanks, front_of}
+use Rattle.xs_base.specs.declared.runs.ByteClass.TheVariants.{Capital, Word}
+use Rattle.xs_base.specs.Names.{is_among}
 use Rattle.xs_sections.specs.Marks.{begins_pod, ends_pod, is_comment, is_directive, is_module_line, begins_with}
 use Rattle.xs_sections.specs.ModuleLine.{module_class, class_by_names, module_names}
 use Rattle.xs_sections.specs.Keywords as keyword
@@ -96,10 +98,10 @@ end_is [] end e = absurd cc
 end_is (b ∷ bs) end e = by_quotes (b == 34 || b == 39) e
   where
     by_quotes : (q : Bool)
-        → (if q then keyword.quoted_word b (front is_word_byte bs) (behind_front is_word_byte bs) else keyword.end_word_of (front is_word_byte (b ∷ bs)) (behind_front is_word_byte (b ∷ bs))) ≡ Some end
+        → (if q then keyword.quoted_word b (front_of Word bs) (behind Word bs) else keyword.end_word_of (front_of Word (b ∷ bs)) (behind Word (b ∷ bs))) ≡ Some end
         → is_identifier end ≡ true
-    by_quotes true h = quoted_is b (front is_word_byte bs) (behind_front is_word_byte bs) end h
-    by_quotes false h = end_word_is (front is_word_byte (b ∷ bs)) (behind_front is_word_byte (b ∷ bs)) end h
+    by_quotes true h = quoted_is b (front_of Word bs) (behind Word bs) end h
+    by_quotes false h = end_word_is (front_of Word (b ∷ bs)) (behind Word (b ∷ bs)) end h
 
 block_end_word : (value end : List ℕ) → keyword.block_end value ≡ Some end → is_identifier end ≡ true
 block_end_word value end e = by_mark (after_word (codes "<<") value) e
@@ -137,20 +139,20 @@ module _ (line : List ℕ) where
   left_out_heads word = record { is = refl; no_boot = λ h. absurd cc; boot = λ h. absurd cc; end = λ word h. absurd cc }
 
   word_heads : (word value : List ℕ) → Heads line (keyword.word_class word value line)
-  unfolding keyword.word_class
+  unfolding keyword.word_class keyword.left_out_class
   word_heads word value =
       by_if (bytes_eq word (codes "PROTOTYPES") || bytes_eq word (codes "VERSIONCHECK")) (value_heads (keyword.is_switch (keyword.only_word value)))
       (by_if (bytes_eq word (codes "REQUIRE")) (value_heads (keyword.is_some_word (keyword.only_word value)))
       (by_if (bytes_eq word (codes "FALLBACK")) (value_heads (keyword.is_fallback (keyword.only_word value)))
       (by_if (bytes_eq word (codes "TYPEMAP")) (map_heads (keyword.block_end (keyword.only_word value)) (block_end_word (keyword.only_word value)))
-      (by_if (keyword.is_left_out word && not (begins_with_byte (λ b. b == 58) value)) (left_out_heads word) text_heads))))
+      (by_if (is_among keyword.left_out_words word && not (begins_with (codes ":") value)) (left_out_heads word) text_heads))))
 
   behind_word_heads : (word more : List ℕ) → Heads line (keyword.class_behind_word word more line)
   behind_word_heads word [] = text_heads
   behind_word_heads word (b ∷ value) = by_if (b == 58) (word_heads word value) text_heads
 
   head_heads : Heads line (keyword.head_class line)
-  head_heads = behind_word_heads (front is_capital line) (behind_blanks (behind_front is_capital line))
+  head_heads = behind_word_heads (front_of Capital line) (behind_blanks (behind Capital line))
 
   -- a line that is read as the first of a paragraph is no BOOT line
   pub first_no_boot : keyword.head_class line ≡ class.First → begins_with (codes "BOOT:") line ≡ false

@@ -1,105 +1,68 @@
 -- The names that MODULE lines set are names.
-use Rattle.std.proofs.Common.{◌≡◌, ℕ, length, Bool, true, false, List, [], ◌∷◌, ◌++◌, codes, Option, None, Some, Ok, refl, sym, ap, ◌∙◌, subst, arith}
+use Rattle.std.proofs.Common.{◌≡◌, ℕ, length, Bool, true, List, [], ◌∷◌, ◌++◌, codes, Option, None, Some, Ok, refl, sym, ap, ◌∙◌, subst, arith}
 use Rattle.std.specs.List.{AllByRecursion}
-use Rattle.std.specs.Prelude.{All, ◌<◌, option_and_then, if◌then◌else◌, slice_index_or}
+use Rattle.std.specs.Prelude.{All, ◌<◌, slice_index_or}
 use Rattle.std.proofs.lemmas.List.{length-append}
+use Rattle.std.proofs.lemmas.Option.{cond_some, option_and_then_some}
 use Rattle.xs_base.specs.declared.place.Line.{Line}
 use Rattle.xs_base.specs.Lines.{lines_of}
 use Rattle.xs_sections.specs.Classes.{Tag, tags_of}
 use Rattle.xs_sections.specs.Cut.{no_names, split_of}
 use Rattle.xs_sections.specs.Laws.{HoldsEachLine, IsLastModule, IsModule, IsOf, IsOnlySplit, XsPart}
 use Rattle.xs_sections.specs.Laws as law
-use Rattle.xs_sections.specs.ModuleLine.{Valued, assignment, good_value, required, optional, module_names}
+use Rattle.xs_sections.specs.ModuleLine.{Valued, assignment, good_value, required, optional, module_names, names_behind_module, names_behind_package, names_to_end}
 use Rattle.xs_base.specs.Scanning.{is_blank_line, is_identifier}
-use Rattle.xs_sections.specs.Text.{is_name, is_rest_of_name}
+use Rattle.xs_base.specs.Names.{is_qualified_name}
 use Rattle.xs_sections.specs.declared.class.Class.{Class}
 use Rattle.xs_sections.specs.declared.class.ModuleNames.{ModuleNames}
 use Rattle.xs_sections.specs.declared.sections.Part.{Part}
 use Rattle.xs_sections.specs.declared.sections.Sections.{Sections}
-use Rattle.xs_sections.specs.declared.text.NameByte.TheVariants.{Further, SecondColon}
 use Rattle.xs_sections.proofs.Hold.{holds_each, is_only_split}
 
 -- a package: a name, or nothing
 abbrev pub is_name_or_empty : List ℕ → Bool
 is_name_or_empty [] = true
-is_name_or_empty (b ∷ bs) = is_name (b ∷ bs)
+is_name_or_empty (b ∷ bs) = is_qualified_name (b ∷ bs)
 
--- what may stand behind the first byte of a name
-abbrev pub is_rest : List ℕ → Bool
-is_rest bs = is_rest_of_name Further bs
-
--- what may stand behind a colon with which a name goes on
-abbrev pub is_after_colon : List ℕ → Bool
-is_after_colon bs = is_rest_of_name SecondColon bs
-
-name_is_one : (name : List ℕ) → is_name name ≡ true → is_name_or_empty name ≡ true
+name_is_one : (name : List ℕ) → is_qualified_name name ≡ true → is_name_or_empty name ≡ true
 name_is_one [] h = refl
 name_is_one (b ∷ bs) h = h
-
--- ---- what a chain of two steps came from
-
-record Chained {A B : Type 0} (k : A → Option B) (o : Option A) (b : B) : Type 0 where
-  at : A
-  was : o ≡ Some at
-  then_is : k at ≡ Some b
-
-chained : {A B : Type 0} (k : A → Option B) (o : Option A) (b : B) → option_and_then k o ≡ Some b → Chained k o b
-chained k None b h = absurd cc
-chained k (Some a) b h = record { at = a; was = refl; then_is = h }
-
--- what a test let through
-record Passed {A : Type 0} (t : Bool) (a b : A) : Type 0 where
-  test : t ≡ true
-  same : a ≡ b
-
-passed : {A : Type 0} (t : Bool) (a b : A) → (if t then Some a else None) ≡ Some b → Passed t a b
-passed true a b h = record { test = refl; same = cc }
-passed false a b h = absurd cc
 
 -- ---- a MODULE line
 
 good_is : (is_good : List ℕ → Bool) (found value : Valued) → good_value is_good found ≡ Some value → is_good value.0 ≡ true
 good_is is_good found value h =
-    let p = passed (is_good found.0) found value h in
-    ap (λ (v : Valued). is_good v.0) (sym p.same) ∙ p.test
+    let p = cond_some (is_good found.0) found value h in
+    ap (λ (v : Valued). is_good v.0) (sym p.1) ∙ p.0
 
 required_is : (is_good : List ℕ → Bool) (o : Option Valued) (value : Valued) → required is_good o ≡ Some value → is_good value.0 ≡ true
-required_is is_good o value h =
-    let c = chained (good_value is_good) o value h in
-    good_is is_good c.at value c.then_is
+required_is is_good o value h = option_and_then_some (good_value is_good) o value h (λ found was. good_is is_good found value)
 
-package_is : (o : Option Valued) (text : List ℕ) (value : Valued) → optional is_name o text ≡ Some value → is_name_or_empty value.0 ≡ true
+package_is : (o : Option Valued) (text : List ℕ) (value : Valued) → optional is_qualified_name o text ≡ Some value → is_name_or_empty value.0 ≡ true
 package_is None text value h = nothing h
   where
     nothing : Some ([], text) ≡ Some value → is_name_or_empty value.0 ≡ true
     nothing e = let f : ([], text) ≡ value = cc in ap (λ (v : Valued). is_name_or_empty v.0) (sym f)
-package_is (Some found) text value h = name_is_one value.0 (good_is is_name found value h)
+package_is (Some found) text value h = name_is_one value.0 (good_is is_qualified_name found value h)
 
 pub record AreNames (names : ModuleNames) : Type 0 where
-  pub module_name : is_name names.module ≡ true
+  pub module_name : is_qualified_name names.module ≡ true
   pub package_name : is_name_or_empty names.package ≡ true
-
-abbrev behind_prefix : Valued → Valued → Valued → Option ModuleNames
-behind_prefix named packaged prefixed = if is_blank_line prefixed.1 then Some (record { «module» = named.0; «package» = packaged.0; prefix = prefixed.0 }) else None
-
-abbrev behind_package : Valued → Valued → Option ModuleNames
-behind_package named packaged = option_and_then (behind_prefix named packaged) (optional is_identifier (assignment (codes "PREFIX") packaged.1) packaged.1)
-
-abbrev behind_module : Valued → Option ModuleNames
-behind_module named = option_and_then (behind_package named) (optional is_name (assignment (codes "PACKAGE") named.1) named.1)
 
 are_names : (line : List ℕ) (names : ModuleNames) → module_names line ≡ Some names → AreNames names
 unfolding module_names
 are_names line names h =
-    let a = chained behind_module (required is_name (assignment (codes "MODULE") line)) names h in
-    let b = chained (behind_package a.at) (optional is_name (assignment (codes "PACKAGE") a.at.1) a.at.1) names a.then_is in
-    let c = chained (behind_prefix a.at b.at) (optional is_identifier (assignment (codes "PREFIX") b.at.1) b.at.1) names b.then_is in
-    let made : ModuleNames = record { «module» = a.at.0; «package» = b.at.0; prefix = c.at.0 } in
-    let p = passed (is_blank_line c.at.1) made names c.then_is in
-    subst AreNames p.same (record {
-      module_name = required_is is_name (assignment (codes "MODULE") line) a.at a.was;
-      package_name = package_is (assignment (codes "PACKAGE") a.at.1) a.at.1 b.at b.was;
-    })
+    option_and_then_some names_behind_module (required is_qualified_name (assignment (codes "MODULE") line)) names h
+    (λ named is_module e.
+    option_and_then_some (names_behind_package named) (optional is_qualified_name (assignment (codes "PACKAGE") named.1) named.1) names e
+    (λ packaged is_package f.
+    option_and_then_some (names_to_end named packaged) (optional is_identifier (assignment (codes "PREFIX") packaged.1) packaged.1) names f
+    (λ prefixed is_prefix g.
+    let made : ModuleNames = record { «module» = named.0; «package» = packaged.0; prefix = prefixed.0 } in
+    subst AreNames (cond_some (is_blank_line prefixed.1) made names g).1 (record {
+      module_name = required_is is_qualified_name (assignment (codes "MODULE") line) named is_module;
+      package_name = package_is (assignment (codes "PACKAGE") named.1) named.1 packaged is_package;
+    }))))
 
 -- ---- the parts
 
@@ -121,7 +84,7 @@ stands_there (t ∷ before) behind last = stands_there before behind last
 within : (before behind : List Tag) (last : Tag) → length before < length (before ++ last ∷ behind)
 within before behind last = let e = length-append before (last ∷ behind) in omega (arith, e)
 
-last_is : (ts : List Tag) (s : Sections) → All (λ (t : Tag). IsOf t.line.text t.class) ts → IsLastModule ts s → is_name s.module ≡ true
+last_is : (ts : List Tag) (s : Sections) → All (λ (t : Tag). IsOf t.line.text t.class) ts → IsLastModule ts s → is_qualified_name s.module ≡ true
 last_is ts s all l =
     let P : List Tag → Type 0 = λ xs. All (λ (t : Tag). IsOf t.line.text t.class) xs in
     let each : P (l.before ++ l.last ∷ l.behind) = subst P l.stands all in
@@ -129,11 +92,11 @@ last_is ts s all l =
     let at : Q l.last = subst Q (stands_there l.before l.behind l.last) (each (length l.before) l.last (within l.before l.behind l.last)) in
     let R : Class → Type 0 = λ c. IsOf l.last.line.text c in
     let line : IsModule l.last.line.text (Some l.names) = subst R l.sets at in
-    ap is_name (sym l.module_is) ∙ (are_names l.last.line.text l.names line.names_are).module_name
+    ap is_qualified_name (sym l.module_is) ∙ (are_names l.last.line.text l.names line.names_are).module_name
 
 -- The module of a file has a name, and each package is a name or nothing.
 pub record AreNamed (s : Sections) : Type 0 where
-  pub module_name : is_name s.module ≡ true
+  pub module_name : is_qualified_name s.module ≡ true
   pub packages : AllByRecursion (λ (p : Part). is_name_or_empty p.package ≡ true) s.parts
 
 pub are_named : (bytes : List ℕ) (s : Sections) → split_of bytes ≡ Ok s → AreNamed s

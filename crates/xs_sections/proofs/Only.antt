@@ -1,12 +1,13 @@
 -- A file can be split in one way only.
-use Rattle.std.proofs.Common.{◌≡◌, ℕ, Bool, true, false, if◌then◌else◌, List, [], ◌∷◌, ◌++◌, ◌⊎◌, inl, inr, All, Option, None, Some, refl, ap, sym, subst, ◌∙◌}
+use Rattle.std.proofs.Common.{◌&&◌, ◌≡◌, ℕ, Bool, true, false, if◌then◌else◌, List, [], ◌∷◌, ◌++◌, ◌⊎◌, inl, inr, All, Option, None, Some, refl, ap, sym, subst, ◌∙◌}
 use Rattle.std.specs.Prelude.{codes}
 use Rattle.std.specs.Str.{bytes_eq}
 use Rattle.std.proofs.lemmas.Bool.{false≢true}
 use Rattle.std.proofs.lemmas.List.Elements.{All-head, All-tail}
 use Rattle.xs_base.specs.declared.place.Line.{Line}
-use Rattle.xs_base.specs.Scanning.{behind_blanks, is_blank, is_blank_line, is_word_byte}
-use Rattle.xs_sections.specs.Text.{front}
+use Rattle.xs_base.specs.Scanning.{is_blank, is_blank_line}
+use Rattle.xs_base.specs.Runs.{behind_blanks, front_of}
+use Rattle.xs_base.specs.declared.runs.ByteClass.TheVariants as byte_class
 use Rattle.xs_sections.specs.Marks.{begins_with, begins_pod, ends_pod, is_module_line}
 use Rattle.xs_sections.specs.ModuleLine.{module_names}
 use Rattle.xs_sections.specs.Keywords.{head_class}
@@ -150,7 +151,7 @@ empty_trimmed : (text : List ℕ) → is_blank_line text ≡ true → behind_bla
 empty_trimmed [] e = refl
 empty_trimmed (b ∷ bs) e = by_blank (is_blank b) (λ h. empty_trimmed bs h) e
   where
-    by_blank : (c : Bool) → (is_blank_line bs ≡ true → behind_blanks bs ≡ []) → (if c then is_blank_line bs else false) ≡ true → (if c then behind_blanks bs else b ∷ bs) ≡ []
+    by_blank : (c : Bool) → (is_blank_line bs ≡ true → behind_blanks bs ≡ []) → (c && is_blank_line bs) ≡ true → (if c then behind_blanks bs else b ∷ bs) ≡ []
     by_blank true ih h = ih h
     by_blank false ih h = absurd (false≢true h)
 
@@ -159,7 +160,7 @@ module_not_empty text m = by_empty (is_blank_line text) refl
   where
     by_empty : (b : Bool) → is_blank_line text ≡ b → b ≡ false
     by_empty true e =
-        let none : is_module_line text ≡ false = ap (λ (rest : List ℕ). bytes_eq (front is_word_byte rest) (codes "MODULE")) (empty_trimmed text e) in
+        let none : is_module_line text ≡ false = ap (λ (rest : List ℕ). bytes_eq (front_of byte_class.Word rest) (codes "MODULE")) (empty_trimmed text e) in
         absurd (false≢true (sym none ∙ m))
     by_empty false e = refl
 

@@ -1,11 +1,12 @@
 -- The sections hold each line of the file once.
-use Rattle.std.proofs.Common.{◌≡◌, ℕ, Bool, true, false, not, cond, if◌then◌else◌, List, [], ◌∷◌, ◌++◌, map, All, refl, ap, sym, subst, ◌∙◌}
+use Rattle.std.proofs.Common.{◌&&◌, ◌≡◌, ℕ, Bool, true, false, not, cond, if◌then◌else◌, List, [], ◌∷◌, ◌++◌, map, All, refl, ap, sym, subst, ◌∙◌}
 use Rattle.std.specs.List.{flat_map}
 use Rattle.std.proofs.lemmas.Bool.{false≢true}
 use Rattle.std.proofs.lemmas.List.Elements.{All-nil, All-cons, All-append}
+use Rattle.std.specs.Prelude.{codes}
 use Rattle.xs_base.specs.declared.place.Line.{Line}
 use Rattle.xs_base.specs.Scanning.{is_blank, is_blank_line}
-use Rattle.xs_sections.specs.Marks.{is_flush_left}
+use Rattle.xs_sections.specs.Marks.{begins_with, is_flush_left}
 use Rattle.xs_sections.specs.Classes.{Tag, class_of, is_in_text, opens_paragraph, place_behind, pod_behind, gap_behind, further_behind, blank_behind, tag_of, tags_from, tags_of}
 use Rattle.xs_sections.specs.Cut.{paragraph_lines, map_lines, lines_in, names_behind, paragraph_of, map_of, part_at, parts_of}
 use Rattle.xs_sections.specs.Laws.{IsOf, IsPlain, IsHeadLine, body_lines, is_in_part, HoldsTogether, EndsAtGap, IsParagraph, IsMapLine, IsBody}
@@ -16,11 +17,9 @@ use Rattle.xs_sections.specs.declared.class.ModuleNames.{ModuleNames}
 use Rattle.xs_sections.specs.declared.class.Place.{Place}
 use Rattle.xs_sections.specs.declared.class.Place.TheVariants as place
 use Rattle.xs_sections.specs.declared.sections.Part.{Part}
+use Rattle.xs_sections.proofs.Places.{tag}
 use Rattle.xs_sections.proofs.Fits.{Fits, Can, class_of_fits}
 use Rattle.xs_sections.proofs.Meanings.{Means, StandsAt, class_of_means, first_no_boot}
-
-abbrev tag : Class → Line → Bool → Tag
-tag class line starts = record { line = line; class = class; starts = starts }
 
 -- ---- each line has its class
 
@@ -163,7 +162,7 @@ empty_not_flush : (bytes : List ℕ) → is_blank_line bytes ≡ true → is_flu
 empty_not_flush [] e = refl
 empty_not_flush (b ∷ bs) e = by_blank (is_blank b) refl e
   where
-    by_blank : (c : Bool) → is_blank b ≡ c → (if c then is_blank_line bs else false) ≡ true → not (is_blank b) ≡ false
+    by_blank : (c : Bool) → is_blank b ≡ c → (c && is_blank_line bs) ≡ true → not (is_blank b) ≡ false
     by_blank true f e = rw f refl
     by_blank false f e = absurd (false≢true e)
 
@@ -281,26 +280,19 @@ IsPart p = IsBody p.body
 one_part : (p : Part) → IsPart p → All IsPart (p ∷ [])
 one_part p h = All-cons IsPart p [] h (All-nil IsPart)
 
--- a paragraph from its first line on
+-- a paragraph from its first line on, behind which a paragraph's text stands open
+paragraph_at : (ls : List Line) (pod : Bool) (l : Line) (c : Class) (at : Place) → IsHeadLine l.text c → is_in_text at ≡ true → Follows at l
+    → (begins_with (codes "BOOT:") l.text ≡ true → EndsAtGap (paragraph_lines (tags_from pod at ls))) → IsParagraph l (paragraph_lines (tags_from pod at ls))
+paragraph_at ls pod l c at is t follows boot =
+    let w : GoesOnWell l (paragraph_lines (tags_from pod at ls)) = goes_well ls pod at l t follows in
+    record { some = is.line.empty_is; plain = All-cons IsPlainLine l _ is.line.plain w.plain; together = w.together; boot = boot }
+
 pub first_paragraph : (ls : List Line) (pod : Bool) (l : Line) → IsHeadLine l.text class.First → IsParagraph l (paragraph_lines (tags_from pod place.Body ls))
 first_paragraph ls pod l is =
-    let w : GoesOnWell l (paragraph_lines (tags_from pod place.Body ls)) = goes_well ls pod place.Body l refl is.line.empty_is in
-    record {
-      some = is.line.empty_is;
-      plain = All-cons IsPlainLine l _ is.line.plain w.plain;
-      together = w.together;
-      boot = λ h. absurd (false≢true (sym (first_no_boot l.text is.reads) ∙ h));
-    }
+    paragraph_at ls pod l class.First place.Body is refl is.line.empty_is (λ h. absurd (false≢true (sym (first_no_boot l.text is.reads) ∙ h)))
 
 pub boot_paragraph : (ls : List Line) (pod : Bool) (l : Line) → IsHeadLine l.text class.FirstOfBoot → IsParagraph l (paragraph_lines (tags_from pod place.Boot ls))
-boot_paragraph ls pod l is =
-    let w : GoesOnWell l (paragraph_lines (tags_from pod place.Boot ls)) = goes_well ls pod place.Boot l refl is.line.empty_is in
-    record {
-      some = is.line.empty_is;
-      plain = All-cons IsPlainLine l _ is.line.plain w.plain;
-      together = w.together;
-      boot = λ h. boots ls pod;
-    }
+boot_paragraph ls pod l is = paragraph_at ls pod l class.FirstOfBoot place.Boot is refl is.line.empty_is (λ h. boots ls pod)
 
 pub parts_are : (ls : List Line) (pod : Bool) (at : Place) (names : ModuleNames) → All IsPart (parts_of names (tags_from pod at ls))
 unfolding tags_from parts_of

@@ -21,6 +21,7 @@ use Rattle.xs_sections.specs.declared.class.Place.TheVariants as place
 use Rattle.xs_sections.specs.declared.reading.Reading.{Reading}
 use Rattle.xs_sections.specs.declared.sections.Part.{Part}
 use Rattle.xs_sections.specs.declared.sections.Sections.{Sections}
+use Rattle.xs_sections.proofs.Places.{tag, no_map_behind, no_c_behind, no_map_blank, no_c_blank, gap_map, gap_c, gap_text}
 use Rattle.xs_sections.proofs.Fits.{HasLine, HasLine-push, Good, Fits, Can, class_of_fits}
 
 -- ---- what the lines that are left add to what was read
@@ -91,9 +92,6 @@ closing parts at names lines t ts tail no_map none told =
         rw (none, append-nil lines, told) refl
 
 -- ---- a line of a class
-
-abbrev tag : Class → Line → Bool → Tag
-tag class line starts = record { line = line; class = class; starts = starts }
 
 -- What a line does to what was read, against what its tag adds.
 record Goes (s new : Reading) (t : Tag) (ts : List Tag) : Type 0 where
@@ -172,34 +170,6 @@ map_end_parts : (parts : List Part) (at : Place) (names : ModuleNames) (lines : 
     → is_map at ≡ true → map_lines (t ∷ ts) ≡ [] → parts_of names (t ∷ ts) ≡ parts_of names ts
     → (parts ++ map_of names lines ∷ []) ++ parts_of names ts ≡ parts ++ rest_parts at names lines (t ∷ ts)
 map_end_parts parts at names lines t ts a p q = rw (a, p, q, append-nil lines, append_assoc parts (map_of names lines ∷ []) (parts_of names ts)) refl
-
-no_map_behind : (at : Place) → is_map at ≡ false → is_map (further_behind at) ≡ false
-no_map_behind place.Boot h = refl
-no_map_behind _ h = refl
-
-no_c_behind : (at : Place) → is_c_part (further_behind at) ≡ false
-no_c_behind place.Boot = refl
-no_c_behind _ = refl
-
-no_map_blank : (at : Place) → is_map (blank_behind at) ≡ false
-no_map_blank place.Boot = refl
-no_map_blank _ = refl
-
-no_c_blank : (at : Place) → is_c_part (blank_behind at) ≡ false
-no_c_blank place.Boot = refl
-no_c_blank _ = refl
-
-gap_map : (at : Place) → is_map (gap_behind at) ≡ is_map at
-gap_map place.Head = refl
-gap_map _ = refl
-
-gap_c : (at : Place) → is_c_part (gap_behind at) ≡ is_c_part at
-gap_c place.Head = refl
-gap_c _ = refl
-
-gap_text : (at : Place) → is_in_text (gap_behind at) ≡ is_in_text at
-gap_text place.Head = refl
-gap_text _ = refl
 
 no_c_in_map : (at : Place) → is_map at ≡ true → is_c_part at ≡ false
 no_c_in_map place.CPart h = absurd (false≢true h)

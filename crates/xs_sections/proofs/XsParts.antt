@@ -1,5 +1,5 @@
 -- The XS part is a row of empty lines, MODULE lines, file keywords, typemap blocks and paragraphs.
-use Rattle.std.proofs.Common.{◌≡◌, ℕ, Bool, true, false, if◌then◌else◌, List, [], ◌∷◌, ◌++◌, inl, inr, All, refl, ap, sym, subst, ◌∙◌, append_assoc, append-nil}
+use Rattle.std.proofs.Common.{◌≡◌, ℕ, Bool, true, false, not, if◌then◌else◌, List, [], ◌∷◌, ◌++◌, inl, inr, All, refl, ap, sym, subst, ◌∙◌, append_assoc, append-nil}
 use Rattle.std.specs.Prelude.{codes}
 use Rattle.std.specs.Str.{bytes_eq}
 use Rattle.std.proofs.lemmas.Bool.{false≢true}
@@ -8,7 +8,7 @@ use Rattle.xs_base.specs.declared.place.Line.{Line}
 use Rattle.xs_base.specs.Scanning.{is_blank_line}
 use Rattle.xs_sections.specs.Marks.{is_flush_left, begins_with}
 use Rattle.xs_sections.specs.Classes.{Tag, class_of, is_in_text, is_head, place_behind, pod_behind, gap_behind, further_behind, blank_behind, tag_of, tags_from, tags_of}
-use Rattle.xs_sections.specs.Cut.{paragraph_lines, map_lines, lines_in, paragraph_of, map_of, parts_of, no_names}
+use Rattle.xs_sections.specs.Cut.{paragraph_lines, map_lines, lines_in, is_passed, paragraph_of, map_of, parts_of, no_names}
 use Rattle.xs_sections.specs.Faults.{line_fault, room_fault, room_behind, line_faults, is_map_begin, is_map_end, some_line, unless_behind, map_fault}
 use Rattle.xs_sections.specs.Laws.{IsOf, IsHeadLine, IsParagraphHead, IsParagraph, EndsBefore, last_line, XsPart}
 use Rattle.xs_sections.specs.Laws as law
@@ -21,21 +21,13 @@ use Rattle.xs_sections.specs.declared.class.Place.TheVariants as place
 use Rattle.xs_sections.specs.declared.sections.Part.{Part}
 use Rattle.xs_sections.proofs.CPart.{no_faults, no_fault_behind}
 use Rattle.xs_sections.proofs.Fits.{Fits, Can, class_of_fits}
+use Rattle.xs_sections.proofs.Places.{tag, gap_c, gap_map, gap_text}
 use Rattle.xs_sections.proofs.Meanings.{Means, StandsAt, EndsHere, IsEnd, class_of_means, boot_begins}
 use Rattle.xs_sections.proofs.Parts.{stops, first_paragraph, boot_paragraph}
 
-abbrev tag : Class → Line → Bool → Tag
-tag class line starts = record { line = line; class = class; starts = starts }
-
 -- the classes of the lines of the XS part that are no comments
 abbrev pub is_bare : Class → Bool
-is_bare class.PodBegin = false
-is_bare class.PodLine = false
-is_bare class.PodEnd = false
-is_bare class.C = false
-is_bare class.Comment = false
-is_bare class.Directive = false
-is_bare _ = true
+is_bare c = not (is_passed c)
 
 abbrev pub bare : List Tag → List Line
 bare ts = lines_in is_bare ts
@@ -83,11 +75,7 @@ ends_here : (at : Place) (first : Line) (further : List Line) (text : List ℕ) 
 ends_here place.BodyGap first further text t e last = record { empty = last; flush = e t }
 ends_here place.Body first further text t e last = absurd (false≢true (e t))
 ends_here place.Boot first further text t e last = absurd (false≢true (e t))
-ends_here place.CPart first further text t e last = absurd (false≢true t)
-ends_here place.Between first further text t e last = absurd (false≢true t)
-ends_here place.Head first further text t e last = absurd (false≢true t)
-ends_here place.HeadGap first further text t e last = absurd (false≢true t)
-ends_here (place.Map end) first further text t e last = absurd (false≢true t)
+ends_here _ first further text t e last = absurd (false≢true t)
 
 -- ---- places
 
@@ -101,13 +89,7 @@ no_map_in_text _ t = refl
 
 is_end_in_map : (at : Place) (text : List ℕ) (b : Bool) → IsEnd at text b → is_map at ≡ true
 is_end_in_map (place.Map end) text b e = refl
-is_end_in_map place.CPart text b e = absurd e
-is_end_in_map place.Between text b e = absurd e
-is_end_in_map place.Head text b e = absurd e
-is_end_in_map place.HeadGap text b e = absurd e
-is_end_in_map place.Body text b e = absurd e
-is_end_in_map place.BodyGap text b e = absurd e
-is_end_in_map place.Boot text b e = absurd e
+is_end_in_map _ text b e = absurd e
 
 -- a place where neither a paragraph's text nor a typemap block stands open
 record IsFree (at : Place) : Type 0 where
@@ -116,14 +98,7 @@ record IsFree (at : Place) : Type 0 where
   c : is_c_part at ≡ false
 
 free_gap : (at : Place) → IsFree at → IsFree (gap_behind at)
-free_gap place.Head f = record { text = refl; map = refl; c = refl }
-free_gap place.CPart f = f
-free_gap place.Between f = f
-free_gap place.HeadGap f = f
-free_gap place.Body f = f
-free_gap place.BodyGap f = f
-free_gap place.Boot f = f
-free_gap (place.Map end) f = f
+free_gap at f = record { text = gap_text at ∙ f.text; map = gap_map at ∙ f.map; c = gap_c at ∙ f.c }
 
 free_between : IsFree place.Between
 free_between = record { text = refl; map = refl; c = refl }

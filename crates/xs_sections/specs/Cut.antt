@@ -9,6 +9,7 @@ use Rattle.xs_sections.specs.declared.class.Class.{Class}
 use Rattle.xs_sections.specs.declared.class.Class.TheVariants as class
 use Rattle.xs_sections.specs.declared.class.ModuleNames.{ModuleNames}
 use Rattle.xs_sections.specs.declared.sections.Part.{Part}
+use Rattle.xs_sections.specs.declared.sections.PartBody.{PartBody}
 use Rattle.xs_sections.specs.declared.sections.PartBody.TheVariants.{Para, Map}
 use Rattle.xs_sections.specs.declared.sections.Sections.{Sections}
 
@@ -80,11 +81,14 @@ last_module_line line (t ∷ ts) = last_module_line (line_behind line t.line.num
 abbrev pub no_names : ModuleNames
 no_names = record { «module» = []; «package» = []; prefix = [] }
 
+abbrev pub part_of : ModuleNames → PartBody → Part
+part_of names body = record { «module» = names.module; «package» = names.package; prefix = names.prefix; body = body }
+
 abbrev pub paragraph_of : ModuleNames → List Line → Part
-paragraph_of names lines = record { «module» = names.module; «package» = names.package; prefix = names.prefix; body = Para lines }
+paragraph_of names lines = part_of names (Para lines)
 
 abbrev pub map_of : ModuleNames → List Line → Part
-map_of names lines = record { «module» = names.module; «package» = names.package; prefix = names.prefix; body = Map lines }
+map_of names lines = part_of names (Map lines)
 
 -- the part that begins at a line
 abbrev pub part_at : ModuleNames → Class → Line → List Tag → List Part
@@ -108,9 +112,9 @@ sections_of ts =
     }
 
 -- no value where there is a fault
-abbrev pub unless_fault : Option Fault → Sections → Result Sections Fault
-unless_fault None sections = Ok sections
-unless_fault (Some fault) sections = Err fault
+abbrev pub unless_fault : {A : Type 0} → Option Fault → A → Result A Fault
+unless_fault None value = Ok value
+unless_fault (Some fault) value = Err fault
 
 -- the sections of a file, or its first fault
 abbrev pub split_of : List ℕ → Result Sections Fault

@@ -1,23 +1,25 @@
 -- What a line is that may begin a paragraph: a file keyword, or the first line of the paragraph itself.
 use Rattle.std.specs.Prelude.{ℕ, Bool, true, false, not, ◌&&◌, ◌||◌, ◌==◌, if◌then◌else◌, List, [], ◌∷◌, Option, None, Some, codes, option_and_then}
 use Rattle.std.specs.Str.{bytes_eq}
-use Rattle.xs_base.specs.Scanning.{after_word, behind_blanks, is_blank_line, is_identifier, is_word_byte}
-use Rattle.xs_sections.specs.Text.{front, behind_front, begins_with_byte, is_capital, is_no_blank}
+use Rattle.xs_base.specs.Names.{is_among}
+use Rattle.xs_base.specs.Runs.{behind, behind_blanks, front_of}
+use Rattle.xs_base.specs.Scanning.{after_word, is_blank_line, is_identifier}
+use Rattle.xs_base.specs.declared.runs.ByteClass.TheVariants.{Capital, NoBlank, Word}
 use Rattle.xs_sections.specs.Marks.{begins_with}
 use Rattle.xs_sections.specs.declared.class.Class.{Class}
 use Rattle.xs_sections.specs.declared.class.Class.TheVariants.{Keyword, BadValue, LeftOut, MapBegin, First, FirstOfBoot}
 
 -- the one word of a value; no word where it has none or several
 abbrev pub only_word : List ℕ → List ℕ
-only_word value = if is_blank_line (behind_front is_no_blank (behind_blanks value)) then front is_no_blank (behind_blanks value) else []
+only_word value = if is_blank_line (behind NoBlank (behind_blanks value)) then front_of NoBlank (behind_blanks value) else []
 
 -- the value of PROTOTYPES and VERSIONCHECK
 abbrev pub is_switch : List ℕ → Bool
-is_switch word = bytes_eq word (codes "ENABLE") || bytes_eq word (codes "DISABLE")
+is_switch word = is_among (codes "ENABLE" ∷ codes "DISABLE" ∷ []) word
 
 -- the value of FALLBACK
 abbrev pub is_fallback : List ℕ → Bool
-is_fallback word = bytes_eq word (codes "TRUE") || (bytes_eq word (codes "FALSE") || bytes_eq word (codes "UNDEF"))
+is_fallback word = is_among (codes "TRUE" ∷ codes "FALSE" ∷ codes "UNDEF" ∷ []) word
 
 -- the value of REQUIRE: a word
 abbrev pub is_some_word : List ℕ → Bool
@@ -43,24 +45,18 @@ quoted_word quote word (b ∷ closing) = if b == quote then end_word_of word clo
 abbrev pub end_word : List ℕ → Option (List ℕ)
 end_word [] = None
 end_word (b ∷ bs) =
-    if b == 34 || b == 39 then quoted_word b (front is_word_byte bs) (behind_front is_word_byte bs)
-    else end_word_of (front is_word_byte (b ∷ bs)) (behind_front is_word_byte (b ∷ bs))
+    if b == 34 || b == 39 then quoted_word b (front_of Word bs) (behind Word bs)
+    else end_word_of (front_of Word (b ∷ bs)) (behind Word (b ∷ bs))
 
 -- the value of TYPEMAP: `<<` and the end word of the block
 abbrev pub block_end : List ℕ → Option (List ℕ)
 block_end word = option_and_then end_word (after_word (codes "<<") word)
 
 -- the file keywords that are left out
-abbrev pub is_left_out : List ℕ → Bool
-is_left_out word =
-    bytes_eq word (codes "INCLUDE")
-    || (bytes_eq word (codes "INCLUDE_COMMAND")
-    || (bytes_eq word (codes "INTERFACE")
-    || (bytes_eq word (codes "INTERFACE_MACRO")
-    || (bytes_eq word (codes "SCOPE")
-    || (bytes_eq word (codes "ATTRS")
-    || (bytes_eq word (codes "EXPORT_XSUB_SYMBOLS")
-    || bytes_eq word (codes "SETMAGIC")))))))
+abbrev pub left_out_words : List (List ℕ)
+left_out_words =
+    codes "INCLUDE" ∷ codes "INCLUDE_COMMAND" ∷ codes "INTERFACE" ∷ codes "INTERFACE_MACRO"
+    ∷ codes "SCOPE" ∷ codes "ATTRS" ∷ codes "EXPORT_XSUB_SYMBOLS" ∷ codes "SETMAGIC" ∷ []
 
 abbrev pub value_class : Bool → Class
 value_class is_good = if is_good then Keyword else BadValue
@@ -74,9 +70,9 @@ abbrev pub text_class : List ℕ → Class
 text_class line = if begins_with (codes "BOOT:") line then FirstOfBoot else First
 
 -- a keyword that is left out; `::` makes none
-abbrev pub left_out_class : List ℕ → List ℕ → List ℕ → Class
+unfoldable pub left_out_class : List ℕ → List ℕ → List ℕ → Class
 left_out_class word value line =
-    if is_left_out word && not (begins_with_byte (λ b. b == 58) value) then LeftOut word else text_class line
+    if is_among left_out_words word && not (begins_with (codes ":") value) then LeftOut word else text_class line
 
 -- a line that begins with a word, maybe blanks, and `:`, behind which the value stands
 unfoldable pub word_class : List ℕ → List ℕ → List ℕ → Class
@@ -93,4 +89,4 @@ class_behind_word word [] line = text_class line
 class_behind_word word (b ∷ value) line = if b == 58 then word_class word value line else text_class line
 
 abbrev pub head_class : List ℕ → Class
-head_class line = class_behind_word (front is_capital line) (behind_blanks (behind_front is_capital line)) line
+head_class line = class_behind_word (front_of Capital line) (behind_blanks (behind Capital line)) line

@@ -1,4 +1,3 @@
-pub mod Text
 pub mod Marks
 pub mod ModuleLine
 pub mod Keywords

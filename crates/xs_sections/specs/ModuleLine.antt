@@ -2,8 +2,10 @@
 -- at the end; a name or word ends before a blank.
 use Rattle.std.specs.Prelude.{ℕ, Bool, if◌then◌else◌, List, [], Option, None, Some, codes, option_and_then}
 use denote.Ref.{Bor}
-use Rattle.xs_base.specs.Scanning.{after_word, behind_blanks, is_blank_line, is_identifier}
-use Rattle.xs_sections.specs.Text.{front, behind_front, is_no_blank, is_name}
+use Rattle.xs_base.specs.Names.{is_qualified_name}
+use Rattle.xs_base.specs.Runs.{behind, behind_blanks, front_of}
+use Rattle.xs_base.specs.Scanning.{after_word, is_blank_line, is_identifier}
+use Rattle.xs_base.specs.declared.runs.ByteClass.TheVariants.{NoBlank}
 use Rattle.xs_sections.specs.declared.class.ModuleNames.{ModuleNames}
 use Rattle.xs_sections.specs.declared.class.Class.{Class}
 use Rattle.xs_sections.specs.declared.class.Class.TheVariants.{Module, BadModule}
@@ -17,38 +19,46 @@ shown (value, more) = (value.now, more.now)
 
 -- the bytes up to the first blank, and what stands behind them
 abbrev pub valued : List ℕ → Valued
-valued text = (front is_no_blank text, behind_front is_no_blank text)
+valued text = (front_of NoBlank text, behind NoBlank text)
 
-infixl 10 ◌>>=◌
-abbrev pub ◌>>=◌ : {A B : Type 0} → Option A → (A → Option B) → Option B
-found >>= next = option_and_then next found
+-- `= VALUE` at the front
+abbrev pub assigned : List ℕ → Option Valued
+assigned text = option_and_then (λ value. Some (valued (behind_blanks value))) (after_word (codes "=") (behind_blanks text))
 
 -- `WORD = VALUE` at the front
 abbrev pub assignment : List ℕ → List ℕ → Option Valued
-assignment word text = do
-  more ← after_word word (behind_blanks text)
-  value ← after_word (codes "=") (behind_blanks more)
-  Some (valued (behind_blanks value))
+assignment word text = option_and_then assigned (after_word word (behind_blanks text))
 
 abbrev pub good_value : (List ℕ → Bool) → Valued → Option Valued
 good_value is_good found = if is_good found.0 then Some found else None
 
 -- the value has to stand there, and to be good
 abbrev pub required : (List ℕ → Bool) → Option Valued → Option Valued
-required is_good found = found >>= good_value is_good
+required is_good found = option_and_then (good_value is_good) found
 
 -- Where the word does not stand there, the value is empty; where it does, the value has to be good.
 abbrev pub optional : (List ℕ → Bool) → Option Valued → List ℕ → Option Valued
 optional is_good None text = Some ([], text)
 optional is_good (Some found) text = good_value is_good found
 
+-- Behind the prefix the line is at its end.
+abbrev pub names_to_end : Valued → Valued → Valued → Option ModuleNames
+names_to_end named packaged prefixed =
+    if is_blank_line prefixed.1 then Some (record { «module» = named.0; «package» = packaged.0; prefix = prefixed.0 }) else None
+
+-- Behind the package there may be a prefix.
+abbrev pub names_behind_package : Valued → Valued → Option ModuleNames
+names_behind_package named packaged =
+    option_and_then (names_to_end named packaged) (optional is_identifier (assignment (codes "PREFIX") packaged.1) packaged.1)
+
+-- Behind the name there may be a package.
+abbrev pub names_behind_module : Valued → Option ModuleNames
+names_behind_module named =
+    option_and_then (names_behind_package named) (optional is_qualified_name (assignment (codes "PACKAGE") named.1) named.1)
+
 -- the names that a MODULE line sets, where it has that form
 unfoldable pub module_names : List ℕ → Option ModuleNames
-module_names line = do
-  named ← required is_name (assignment (codes "MODULE") line)
-  packaged ← optional is_name (assignment (codes "PACKAGE") named.1) named.1
-  prefixed ← optional is_identifier (assignment (codes "PREFIX") packaged.1) packaged.1
-  if is_blank_line prefixed.1 then Some (record { «module» = named.0; «package» = packaged.0; prefix = prefixed.0 }) else None
+module_names line = option_and_then names_behind_module (required is_qualified_name (assignment (codes "MODULE") line))
 
 abbrev pub class_by_names : Option ModuleNames → Class
 class_by_names None = BadModule

@@ -4,7 +4,7 @@ use Rattle.xs_base.specs.declared.fault.Fault.{Fault}
 use Rattle.xs_base.specs.declared.place.Line.{Line}
 use Rattle.xs_sections.specs.Classes.{class_of, is_head, opens_paragraph, gap_behind, further_behind, blank_behind}
 use Rattle.xs_sections.specs.Faults.{fault_at, earlier, paragraph_limit}
-use Rattle.xs_sections.specs.Cut.{no_names, unless_fault}
+use Rattle.xs_sections.specs.Cut.{no_names, part_of, unless_fault}
 use Rattle.xs_sections.specs.declared.class.Class.{Class}
 use Rattle.xs_sections.specs.declared.class.Class.TheVariants as class
 use Rattle.xs_sections.specs.declared.class.ModuleNames.{ModuleNames}
@@ -39,8 +39,7 @@ counted starts line s =
     if starts then (if s.room == 0 then noted s (fault_at line 107 []) else record s { room = s.room - 1 }) else s
 
 abbrev pub put_in : PartBody → Reading → Reading
-put_in body s =
-    record s { parts = s.parts ++ record { «module» = s.names.module; «package» = s.names.package; prefix = s.names.prefix; body = body } ∷ [] }
+put_in body s = record s { parts = s.parts ++ part_of s.names body ∷ [] }
 
 abbrev pub closed_with : List Line → Reading → Reading
 closed_with [] s = s

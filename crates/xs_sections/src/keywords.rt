@@ -1,21 +1,35 @@
 //! File keywords, which stand at the head of a paragraph.
 ghost use Rattle.std.specs.Option.{option_copied};
-ghost use Rattle.std.specs.Prelude.{◌≡◌, ◌==◌, IfOk};
-ghost use Rattle.xs_base.specs.Scanning.{is_word_byte};
+ghost use Rattle.std.specs.Prelude.{◌≡◌, IfOk};
+ghost use Rattle.xs_base.specs.Runs.{behind, front_of};
+ghost use Rattle.xs_base.specs.declared.runs.ByteClass.TheVariants.{Word};
 ghost use Rattle.xs_sections.specs.Keywords as spec;
-ghost use Rattle.xs_sections.specs.Text.{begins_with_byte, behind_front, front};
 
 use crate::class::Class;
 use crate::marks::begins_with;
-use crate::text::{split_at_blank, split_capitals, split_word};
 use std::alloc::Global;
-use xs_base::{Bytes, Memory, after_word, behind_blanks, is_blank_line, is_identifier};
+use xs_base::{
+    ByteClass, Bytes, Memory, after_word, behind_blanks, cut_run, is_among, is_blank_line,
+    is_identifier,
+};
+
+/// The file keywords that are left out.
+const LEFT_OUT: [&str; 8] = [
+    "INCLUDE",
+    "INCLUDE_COMMAND",
+    "INTERFACE",
+    "INTERFACE_MACRO",
+    "SCOPE",
+    "ATTRS",
+    "EXPORT_XSUB_SYMBOLS",
+    "SETMAGIC",
+];
 
 /// What a line is that may begin a paragraph.
 pub fn head_class(alloc: Global, line: &[u8]) -> Result<Class, Memory>
     ensures { IfOk result (λ class. class ≡ spec.head_class line.now) }
 {
-    let (word, more) = split_capitals(line);
+    let (word, more) = cut_run(ByteClass::Capital, line);
     match behind_blanks(more) {
         [] => Ok(text_class(line)),
         [first, value @ ..] => {
@@ -46,10 +60,11 @@ fn word_class(alloc: Global, word: &[u8], value: &[u8], line: &[u8]) -> Result<C
     }
 }
 
+#[tactic(auto, unfolding(crate::specs::Keywords::left_out_class))]
 fn left_out_class(alloc: Global, word: &[u8], value: &[u8], line: &[u8]) -> Result<Class, Memory>
     ensures { IfOk result (λ class. class ≡ spec.left_out_class word.now value.now line.now) }
 {
-    if is_left_out(word) && !begins_with_colon(value) {
+    if is_among(&LEFT_OUT, word) && !begins_with(b":", value) {
         let word = Bytes::from_slice(alloc, word)?;
         Ok(Class::LeftOut(word))
     } else {
@@ -94,7 +109,7 @@ fn map_class(alloc: Global, value: &[u8]) -> Result<Class, Memory>
 fn only_word(value: &[u8]) -> &[u8]
     ensures { result.now ≡ spec.only_word value.now }
 {
-    let (word, more) = split_at_blank(behind_blanks(value));
+    let (word, more) = cut_run(ByteClass::NoBlank, behind_blanks(value));
     if is_blank_line(more) {
         word
     } else {
@@ -119,7 +134,7 @@ fn end_word(text: &[u8]) -> Option<&[u8]>
             if *first == b'"' || *first == b'\'' {
                 quoted_word(*first, rest)
             } else {
-                let (word, closing) = split_word(text);
+                let (word, closing) = cut_run(ByteClass::Word, text);
                 end_word_of(word, closing)
             }
         }
@@ -127,9 +142,9 @@ fn end_word(text: &[u8]) -> Option<&[u8]>
 }
 
 fn quoted_word(quote: u8, text: &[u8]) -> Option<&[u8]>
-    ensures { option_copied result ≡ spec.quoted_word quote (front is_word_byte text.now) (behind_front is_word_byte text.now) }
+    ensures { option_copied result ≡ spec.quoted_word quote (front_of Word text.now) (behind Word text.now) }
 {
-    let (word, more) = split_word(text);
+    let (word, more) = cut_run(ByteClass::Word, text);
     match more {
         [] => None,
         [b, closing @ ..] => {
@@ -162,15 +177,6 @@ fn is_closing(text: &[u8]) -> bool
     }
 }
 
-fn begins_with_colon(text: &[u8]) -> bool
-    ensures { result ≡ begins_with_byte (λ b. b == 58) text.now }
-{
-    match text {
-        [] => false,
-        [first, ..] => *first == b':',
-    }
-}
-
 fn is_some_word(word: &[u8]) -> bool
     ensures { result ≡ spec.is_some_word word.now }
 {
@@ -183,24 +189,11 @@ fn is_some_word(word: &[u8]) -> bool
 fn is_switch(word: &[u8]) -> bool
     ensures { result ≡ spec.is_switch word.now }
 {
-    word == b"ENABLE".as_slice() || word == b"DISABLE".as_slice()
+    is_among(&["ENABLE", "DISABLE"], word)
 }
 
 fn is_fallback(word: &[u8]) -> bool
     ensures { result ≡ spec.is_fallback word.now }
 {
-    word == b"TRUE".as_slice() || word == b"FALSE".as_slice() || word == b"UNDEF".as_slice()
-}
-
-fn is_left_out(word: &[u8]) -> bool
-    ensures { result ≡ spec.is_left_out word.now }
-{
-    word == b"INCLUDE".as_slice()
-        || word == b"INCLUDE_COMMAND".as_slice()
-        || word == b"INTERFACE".as_slice()
-        || word == b"INTERFACE_MACRO".as_slice()
-        || word == b"SCOPE".as_slice()
-        || word == b"ATTRS".as_slice()
-        || word == b"EXPORT_XSUB_SYMBOLS".as_slice()
-        || word == b"SETMAGIC".as_slice()
+    is_among(&["TRUE", "FALSE", "UNDEF"], word)
 }

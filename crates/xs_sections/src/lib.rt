@@ -11,7 +11,7 @@ mod sections;
 mod splitting;
 #[cfg(test)]
 mod tests;
-mod text;
 
+pub use reading::fault_at;
 pub use sections::{Part, PartBody, Sections};
 pub use splitting::split;

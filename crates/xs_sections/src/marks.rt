@@ -1,11 +1,16 @@
 //! What a line is by its own text: POD, a comment, a directive, a MODULE line.
-ghost use Rattle.std.specs.Prelude.{◌≡◌, ◌||◌, ◌==◌};
-ghost use Rattle.xs_base.specs.Scanning as scanning;
+ghost use Rattle.std.specs.Prelude.{◌≡◌};
+ghost use Rattle.xs_base.specs.Runs.{behind, front_of};
+ghost use Rattle.xs_base.specs.declared.runs.ByteClass.TheVariants.{Word};
 ghost use Rattle.xs_sections.specs.Marks as spec;
-ghost use Rattle.xs_sections.specs.Text as bytes;
 
-use crate::text::split_word;
-use xs_base::{after_word, behind_blanks, is_blank, is_digit, is_letter};
+use xs_base::{ByteClass, after_word, begins_with_class, behind_blanks, cut_run, is_among};
+
+/// The words that alone make a directive.
+const DIRECTIVES: [&str; 11] = [
+    "define", "undef", "if", "ifdef", "ifndef", "else", "elif", "endif", "error", "pragma",
+    "warning",
+];
 
 /// A line that begins with a text.
 pub fn begins_with(word: &[u8], line: &[u8]) -> bool
@@ -20,43 +25,7 @@ pub fn begins_pod(line: &[u8]) -> bool
 {
     match line {
         [] => false,
-        [first, rest @ ..] => *first == b'=' && begins_with_letter(rest),
-    }
-}
-
-fn begins_with_letter(line: &[u8]) -> bool
-    ensures { result ≡ bytes.begins_with_byte scanning.is_letter line.now }
-{
-    match line {
-        [] => false,
-        [first, ..] => is_letter(*first),
-    }
-}
-
-fn begins_with_digit(line: &[u8]) -> bool
-    ensures { result ≡ bytes.begins_with_byte scanning.is_digit line.now }
-{
-    match line {
-        [] => false,
-        [first, ..] => is_digit(*first),
-    }
-}
-
-fn begins_with_blank(line: &[u8]) -> bool
-    ensures { result ≡ bytes.begins_with_byte scanning.is_blank line.now }
-{
-    match line {
-        [] => false,
-        [first, ..] => is_blank(*first),
-    }
-}
-
-fn begins_with_quote(line: &[u8]) -> bool
-    ensures { result ≡ bytes.begins_with_byte (λ b. b == 34 || b == 60) line.now }
-{
-    match line {
-        [] => false,
-        [first, ..] => *first == b'"' || *first == b'<',
+        [first, rest @ ..] => *first == b'=' && begins_with_class(ByteClass::Letter, rest),
     }
 }
 
@@ -71,20 +40,14 @@ pub fn ends_pod(line: &[u8]) -> bool
 pub fn is_flush_left(line: &[u8]) -> bool
     ensures { result ≡ spec.is_flush_left line.now }
 {
-    match line {
-        [] => false,
-        [first, ..] => !is_blank(*first),
-    }
+    begins_with_class(ByteClass::NoBlank, line)
 }
 
 /// A line is a comment where its first byte that is no blank is `#`. Directives are among them.
 pub fn is_comment(line: &[u8]) -> bool
     ensures { result ≡ spec.is_comment line.now }
 {
-    match behind_blanks(line) {
-        [] => false,
-        [first, ..] => *first == b'#',
-    }
+    begins_with(b"#", behind_blanks(line))
 }
 
 /// A line that the C preprocessor would take: `#` as its first byte and a word of the preprocessor behind it.
@@ -98,35 +61,20 @@ pub fn is_directive(line: &[u8]) -> bool
 }
 
 fn is_directive_text(text: &[u8]) -> bool
-    ensures { result ≡ spec.is_directive_text (bytes.front scanning.is_word_byte text.now) (bytes.behind_front scanning.is_word_byte text.now) }
+    ensures { result ≡ spec.is_directive_text (front_of Word text.now) (behind Word text.now) }
 {
-    let (word, more) = split_word(text);
-    is_directive_word(word)
+    let (word, more) = cut_run(ByteClass::Word, text);
+    is_among(&DIRECTIVES, word)
         || word == b"line".as_slice()
-            && begins_with_blank(more)
-            && begins_with_digit(behind_blanks(more))
-        || word == b"include".as_slice() && begins_with_quote(behind_blanks(more))
-}
-
-fn is_directive_word(word: &[u8]) -> bool
-    ensures { result ≡ spec.is_directive_word word.now }
-{
-    word == b"define".as_slice()
-        || word == b"undef".as_slice()
-        || word == b"if".as_slice()
-        || word == b"ifdef".as_slice()
-        || word == b"ifndef".as_slice()
-        || word == b"else".as_slice()
-        || word == b"elif".as_slice()
-        || word == b"endif".as_slice()
-        || word == b"error".as_slice()
-        || word == b"pragma".as_slice()
-        || word == b"warning".as_slice()
+            && begins_with_class(ByteClass::Blank, more)
+            && begins_with_class(ByteClass::Digit, behind_blanks(more))
+        || word == b"include".as_slice()
+            && (begins_with(b"\"", behind_blanks(more)) || begins_with(b"<", behind_blanks(more)))
 }
 
 /// A line whose first word is MODULE.
 pub fn is_module_line(line: &[u8]) -> bool
     ensures { result ≡ spec.is_module_line line.now }
 {
-    split_word(behind_blanks(line)).0 == b"MODULE".as_slice()
+    cut_run(ByteClass::Word, behind_blanks(line)).0 == b"MODULE".as_slice()
 }

@@ -1,14 +1,16 @@
 //! MODULE lines.
 ghost use Rattle.std.specs.Option.{option_map};
-ghost use Rattle.std.specs.Prelude.{◌≡◌, IfOk, codes};
+ghost use Rattle.std.specs.Prelude.{◌≡◌, IfOk, None, Some, codes, if◌then◌else◌};
+ghost use Rattle.xs_base.specs.Names.{is_qualified_name};
 ghost use Rattle.xs_base.specs.Scanning.{is_identifier};
 ghost use Rattle.xs_sections.specs.ModuleLine as spec;
-ghost use Rattle.xs_sections.specs.Text.{is_name};
 
 use crate::class::{Class, ModuleNames};
-use crate::text::{is_name, split_at_blank};
 use std::alloc::Global;
-use xs_base::{Bytes, Memory, after_word, behind_blanks, is_blank_line, is_identifier};
+use xs_base::{
+    ByteClass, Bytes, Memory, after_word, behind_blanks, cut_run, is_blank_line, is_identifier,
+    is_qualified_name,
+};
 
 /// Reads `WORD = VALUE` at the front of a text: the value, which ends before a blank, and what stands behind it.
 fn assignment<'a>(word: &[u8], text: &'a [u8]) -> Option<(&'a [u8], &'a [u8])>
@@ -16,36 +18,31 @@ fn assignment<'a>(word: &[u8], text: &'a [u8]) -> Option<(&'a [u8], &'a [u8])>
 {
     let more = after_word(word, behind_blanks(text))?;
     let value = after_word(b"=", behind_blanks(more))?;
-    Some(split_at_blank(behind_blanks(value)))
+    Some(cut_run(ByteClass::NoBlank, behind_blanks(value)))
+}
+
+/// A value and what stands behind it, where the value is good.
+fn good_value<'a>(is_good: bool, value: &'a [u8], more: &'a [u8]) -> Option<(&'a [u8], &'a [u8])>
+    ensures { option_map spec.shown result ≡ (if is_good then Some (value.now, more.now) else None) }
+{
+    if is_good { Some((value, more)) } else { None }
 }
 
 fn module_of(text: &[u8]) -> Option<(&[u8], &[u8])>
-    ensures { option_map spec.shown result ≡ spec.required is_name (spec.assignment (codes "MODULE") text.now) }
+    ensures { option_map spec.shown result ≡ spec.required is_qualified_name (spec.assignment (codes "MODULE") text.now) }
 {
     match assignment(b"MODULE", text) {
         None => None,
-        Some((name, more)) => {
-            if is_name(name) {
-                Some((name, more))
-            } else {
-                None
-            }
-        }
+        Some((name, more)) => good_value(is_qualified_name(name), name, more),
     }
 }
 
 fn package_of(text: &[u8]) -> Option<(&[u8], &[u8])>
-    ensures { option_map spec.shown result ≡ spec.optional is_name (spec.assignment (codes "PACKAGE") text.now) text.now }
+    ensures { option_map spec.shown result ≡ spec.optional is_qualified_name (spec.assignment (codes "PACKAGE") text.now) text.now }
 {
     match assignment(b"PACKAGE", text) {
         None => Some((b"".as_slice(), text)),
-        Some((name, more)) => {
-            if is_name(name) {
-                Some((name, more))
-            } else {
-                None
-            }
-        }
+        Some((name, more)) => good_value(is_qualified_name(name), name, more),
     }
 }
 
@@ -54,13 +51,7 @@ fn prefix_of(text: &[u8]) -> Option<(&[u8], &[u8])>
 {
     match assignment(b"PREFIX", text) {
         None => Some((b"".as_slice(), text)),
-        Some((word, more)) => {
-            if is_identifier(word) {
-                Some((word, more))
-            } else {
-                None
-            }
-        }
+        Some((word, more)) => good_value(is_identifier(word), word, more),
     }
 }
 

@@ -1,5 +1,5 @@
 //! What was read of an XS file so far.
-ghost use Rattle.std.specs.Prelude.{◌≡◌, [], OnOk, if◌then◌else◌};
+ghost use Rattle.std.specs.Prelude.{◌≡◌, OnOk};
 ghost use Rattle.xs_base.specs.Reading.{Gives};
 ghost use Rattle.xs_sections.specs.Faults.{fault_at, is_before};
 ghost use Rattle.xs_sections.specs.Steps as spec;
@@ -35,14 +35,15 @@ pub struct Reading {
     fault: Option<Fault>,
 }
 
-fn fault_at(alloc: Global, line: u32, code: u16) -> Fault
-    ensures { result ≡ fault_at line code [] }
+/// A fault of the XS file.
+pub fn fault_at(line: u32, code: u16, word: Bytes) -> Fault
+    ensures { result ≡ fault_at line code word }
 {
     Fault {
         file: FileOf::Xs,
         line,
         code,
-        word: Bytes::new(alloc),
+        word,
     }
 }
 
@@ -136,7 +137,7 @@ impl Reading {
     {
         if starts {
             if self.room == 0 {
-                self.note(fault_at(alloc, line, 107));
+                self.note(fault_at(line, 107, Bytes::new(alloc)));
             } else {
                 self.room -= 1;
             }
@@ -153,17 +154,17 @@ impl Reading {
             Class::PodLine | Class::Comment => {}
             Class::PodEnd => self.pod = None,
             Class::C => self.c_part.push(line)?,
-            Class::Directive => self.note(fault_at(alloc, line.number, 104)),
+            Class::Directive => self.note(fault_at(line.number, 104, Bytes::new(alloc))),
             Class::Module(names) => self.begin_module(alloc, names, line.number)?,
             Class::BadModule => self.bad_module(alloc, line.number)?,
             Class::Outside => self.leave_gap(alloc)?,
             Class::Keyword => self.stay_at_head(alloc)?,
             Class::BadValue => {
-                self.note(fault_at(alloc, line.number, 109));
+                self.note(fault_at(line.number, 109, Bytes::new(alloc)));
                 self.stay_at_head(alloc)?;
             }
             Class::LeftOut(word) => {
-                self.note(left_out(line.number, word));
+                self.note(fault_at(line.number, 108, word));
                 self.stay_at_head(alloc)?;
             }
             Class::MapBegin(end) => self.begin_map(alloc, end, line.number)?,
@@ -190,7 +191,7 @@ impl Reading {
     fn bad_module(&mut self, alloc: Global, line: u32) -> Result<(), Memory>
         ensures { OnOk result (self.new ≡ spec.module_refused line self.old) }
     {
-        self.note(fault_at(alloc, line, 103));
+        self.note(fault_at(line, 103, Bytes::new(alloc)));
         self.close(alloc)?;
         self.module_line = line;
         self.at = Place::Between;
@@ -306,7 +307,7 @@ impl Reading {
         ensures { self.new ≡ spec.module_noted self.old }
     {
         if matches!(self.at, Place::CPart) {
-            self.note(fault_at(alloc, 1, 102));
+            self.note(fault_at(1, 102, Bytes::new(alloc)));
         }
     }
 
@@ -314,7 +315,7 @@ impl Reading {
         ensures { self.new ≡ spec.pod_noted self.old }
     {
         if let Some(line) = self.pod {
-            self.note(fault_at(alloc, line, 105));
+            self.note(fault_at(line, 105, Bytes::new(alloc)));
         }
     }
 
@@ -322,18 +323,7 @@ impl Reading {
         ensures { self.new ≡ spec.map_noted self.old }
     {
         if matches!(self.at, Place::Map(_)) {
-            self.note(fault_at(alloc, self.map_line, 106));
+            self.note(fault_at(self.map_line, 106, Bytes::new(alloc)));
         }
-    }
-}
-
-fn left_out(line: u32, word: Bytes) -> Fault
-    ensures { result ≡ fault_at line 108 word }
-{
-    Fault {
-        file: FileOf::Xs,
-        line,
-        code: 108,
-        word,
     }
 }

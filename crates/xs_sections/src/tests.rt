@@ -4,52 +4,45 @@ use std::alloc::Global;
 use std::test::Fail;
 use xs_base::{Bytes, Items, Line, Memory, Refuse};
 
-fn add_number(alloc: Global, out: &mut Bytes, n: u32) -> Result<(), Memory> {
-    let text = format!(in alloc; "{n}")?;
-    out.append(text.as_str().as_bytes())
-}
-
 fn add_lines(alloc: Global, out: &mut Bytes, lines: &Items<Line>) -> Result<(), Memory> {
     for line in lines.as_slice() {
-        out.append(b"  ")?;
-        add_number(alloc, out, line.number)?;
-        out.append(b" ")?;
+        out.append(format!(in alloc; "  {} ", line.number)?.as_str().as_bytes())?;
         out.append(line.text.as_slice())?;
         out.append(b"\n")?;
     }
     Ok(())
 }
 
-fn add_names(out: &mut Bytes, part: &Part) -> Result<(), Memory> {
+// The names and the lines of a part, behind a mark of its sort.
+fn add_lines_of(
+    alloc: Global,
+    out: &mut Bytes,
+    mark: &[u8],
+    part: &Part,
+    lines: &Items<Line>,
+) -> Result<(), Memory> {
+    out.append(mark)?;
     out.append(part.module.as_slice())?;
     out.append(b" ")?;
     out.append(part.package.as_slice())?;
     out.append(b" ")?;
     out.append(part.prefix.as_slice())?;
-    out.append(b"\n")
+    out.append(b"\n")?;
+    add_lines(alloc, out, lines)
 }
 
 fn add_part(alloc: Global, out: &mut Bytes, part: &Part) -> Result<(), Memory> {
     match &part.body {
-        PartBody::Para(lines) => {
-            out.append(b"P ")?;
-            add_names(out, part)?;
-            add_lines(alloc, out, lines)
-        }
-        PartBody::Map(lines) => {
-            out.append(b"M ")?;
-            add_names(out, part)?;
-            add_lines(alloc, out, lines)
-        }
+        PartBody::Para(lines) => add_lines_of(alloc, out, b"P ", part, lines),
+        PartBody::Map(lines) => add_lines_of(alloc, out, b"M ", part, lines),
     }
 }
 
 fn add_sections(alloc: Global, out: &mut Bytes, s: &Sections) -> Result<(), Memory> {
     out.append(b"S ")?;
     out.append(s.module.as_slice())?;
-    out.append(b" ")?;
-    add_number(alloc, out, s.module_line)?;
-    out.append(b"\nC\n")?;
+    let line = s.module_line;
+    out.append(format!(in alloc; " {line}\nC\n")?.as_str().as_bytes())?;
     add_lines(alloc, out, &s.c_part)?;
     for part in s.parts.as_slice() {
         add_part(alloc, out, part)?;
@@ -67,11 +60,8 @@ fn shown(alloc: Global, src: &Bytes, limit: usize) -> Result<Bytes, Memory> {
         Ok(s) => add_sections(alloc, &mut out, &s)?,
         Err(Refuse::Memory) => return Err(Memory),
         Err(Refuse::Fault(f)) => {
-            out.append(b"F ")?;
-            add_number(alloc, &mut out, f.line)?;
-            out.append(b" ")?;
-            add_number(alloc, &mut out, f.code as u32)?;
-            out.append(b" ")?;
+            let (line, code) = (f.line, f.code);
+            out.append(format!(in alloc; "F {line} {code} ")?.as_str().as_bytes())?;
             out.append(f.word.as_slice())?;
             out.append(b"\n")?;
         }

@@ -3,15 +3,15 @@ use Rattle.std.proofs.Common.{◌≡◌, ℕ, zero, suc, ◌+◌, List, [], ◌�
 use Rattle.std.proofs.lemmas.List.{map-append}
 use Rattle.std.specs.Prelude.{Ok, Option}
 use Rattle.xs_base.specs.declared.place.FileOf.TheVariants as file
-use Rattle.xs_csyn.specs.declared.state.Mode.TheVariants as mode
-use Rattle.xs_csyn.specs.declared.state.State.{State}
-use Rattle.xs_csyn.specs.declared.token.Sort.{Sort}
-use Rattle.xs_csyn.specs.declared.token.Sort.TheVariants as sort
-use Rattle.xs_csyn.specs.declared.token.Token.{Token}
-use Rattle.xs_csyn.specs.Lexemes.{Lexeme, Moved, at_line, behind, run}
-use Rattle.xs_csyn.specs.Pieces.{Piece, Plain, Name, Bare, Blank, Line, ArePieces, named, bared, blanked, lined, run_pieces}
-use Rattle.xs_csyn.specs.Tokens.{token, token_of}
-use Rattle.xs_csyn.proofs.Running.{behind-behind}
+use Rattle.xs_ctok.specs.declared.state.Mode.TheVariants as mode
+use Rattle.xs_ctok.specs.declared.state.State.{State}
+use Rattle.xs_ctok.specs.declared.token.Sort.{Sort}
+use Rattle.xs_ctok.specs.declared.token.Sort.TheVariants as sort
+use Rattle.xs_ctok.specs.declared.token.Token.{Token}
+use Rattle.xs_ctok.specs.Lexemes.{Lexeme, Moved, at_line, behind, run}
+use Rattle.xs_ctok.specs.Pieces.{Piece, Plain, Name, Bare, Blank, Line, ArePieces, named, bared, blanked, lined, run_pieces}
+use Rattle.xs_ctok.specs.Tokens.{token, token_of}
+use Rattle.xs_ctok.proofs.Running.{behind-behind}
 
 -- the state at the begin of a line
 abbrev pub fresh : ℕ → State
@@ -48,23 +48,18 @@ pub record Cut (ps : List Piece) (a b : State) (ts : List Token) : Type 0 where
   pub runs : run_pieces a ps ≡ record { state = b; lexemes = lexemes }
   pub told : map (token_of file.Text) lexemes ≡ map Ok ts
 
+-- a piece in front of two lists of pieces
+moved-append : (m : Moved) (ps qs : List Piece) → run_pieces m.state (ps ++ qs) ≡ behind (run_pieces m.state ps).lexemes (run_pieces (run_pieces m.state ps).state qs)
+    → behind m.lexemes (run_pieces m.state (ps ++ qs)) ≡ behind (m.lexemes ++ (run_pieces m.state ps).lexemes) (run_pieces (run_pieces m.state ps).state qs)
+moved-append m ps qs e = ap (behind m.lexemes) e ∙ behind-behind m.lexemes (run_pieces m.state ps).lexemes (run_pieces (run_pieces m.state ps).state qs)
+
 run_pieces-append : (s : State) (ps qs : List Piece) → run_pieces s (ps ++ qs) ≡ behind (run_pieces s ps).lexemes (run_pieces (run_pieces s ps).state qs)
 run_pieces-append s [] qs = refl
-run_pieces-append s (Plain bytes ∷ ps) qs =
-    ap (behind (run s bytes).lexemes) (run_pieces-append (run s bytes).state ps qs)
-    ∙ behind-behind (run s bytes).lexemes (run_pieces (run s bytes).state ps).lexemes (run_pieces (run_pieces (run s bytes).state ps).state qs)
-run_pieces-append s (Name name ∷ ps) qs =
-    ap (behind (named s name).lexemes) (run_pieces-append (named s name).state ps qs)
-    ∙ behind-behind (named s name).lexemes (run_pieces (named s name).state ps).lexemes (run_pieces (run_pieces (named s name).state ps).state qs)
-run_pieces-append s (Bare text ∷ ps) qs =
-    ap (behind (bared s text).lexemes) (run_pieces-append (bared s text).state ps qs)
-    ∙ behind-behind (bared s text).lexemes (run_pieces (bared s text).state ps).lexemes (run_pieces (run_pieces (bared s text).state ps).state qs)
-run_pieces-append s (Blank blanks ∷ ps) qs =
-    ap (behind (blanked s blanks).lexemes) (run_pieces-append (blanked s blanks).state ps qs)
-    ∙ behind-behind (blanked s blanks).lexemes (run_pieces (blanked s blanks).state ps).lexemes (run_pieces (run_pieces (blanked s blanks).state ps).state qs)
-run_pieces-append s (Line text ∷ ps) qs =
-    ap (behind (lined s text).lexemes) (run_pieces-append (lined s text).state ps qs)
-    ∙ behind-behind (lined s text).lexemes (run_pieces (lined s text).state ps).lexemes (run_pieces (run_pieces (lined s text).state ps).state qs)
+run_pieces-append s (Plain bytes ∷ ps) qs = moved-append (run s bytes) ps qs (run_pieces-append (run s bytes).state ps qs)
+run_pieces-append s (Name name ∷ ps) qs = moved-append (named s name) ps qs (run_pieces-append (named s name).state ps qs)
+run_pieces-append s (Bare text ∷ ps) qs = moved-append (bared s text) ps qs (run_pieces-append (bared s text).state ps qs)
+run_pieces-append s (Blank blanks ∷ ps) qs = moved-append (blanked s blanks) ps qs (run_pieces-append (blanked s blanks).state ps qs)
+run_pieces-append s (Line text ∷ ps) qs = moved-append (lined s text) ps qs (run_pieces-append (lined s text).state ps qs)
 
 are_both : (ps qs : List Piece) → ArePieces ps → ArePieces qs → ArePieces (ps ++ qs)
 are_both [] qs x y = y

@@ -4,18 +4,19 @@ use Rattle.std.specs.Fmt.{decimal}
 use Rattle.std.specs.List.{flat_map}
 use Rattle.std.specs.Prelude.{Ok, true}
 use Rattle.xs_base.specs.declared.place.FileOf.TheVariants as file
-use Rattle.xs_csyn.specs.declared.state.Mode.TheVariants as mode
-use Rattle.xs_csyn.specs.declared.token.Sort.TheVariants as sort
-use Rattle.xs_csyn.specs.declared.token.Token.{Token}
+use Rattle.xs_ctok.specs.declared.state.Mode.TheVariants as mode
+use Rattle.xs_ctok.specs.declared.token.Sort.TheVariants as sort
+use Rattle.xs_ctok.specs.declared.token.Token.{Token}
 use Rattle.xs_csyn.specs.declared.tree.BinaryOp.TheVariants as op
 use Rattle.xs_csyn.specs.declared.tree.PerlForm.TheVariants as form
 use Rattle.xs_csyn.specs.Grammar as g
-use Rattle.xs_csyn.specs.Input.{head_is, is_key}
-use Rattle.xs_csyn.specs.Lexemes.{Sign, Text, Word, at_line, begin}
-use Rattle.xs_csyn.specs.Pieces.{Plain, Name, IsName}
-use Rattle.xs_csyn.specs.Tokens.{word_token}
+use Rattle.xs_csyn.specs.Input.{is_key}
+use Rattle.xs_base.specs.Readers.{head_is}
+use Rattle.xs_ctok.specs.Lexemes.{Sign, Text, Word, at_line, begin}
+use Rattle.xs_ctok.specs.Pieces.{Plain, Name, IsName}
+use Rattle.xs_ctok.specs.Tokens.{word_token}
 use Rattle.xs_csyn.specs.Tree.{Var, Num, Str, Two, StmtTree, Block, Declare, Effect, If, Perl, ItemTree, XsFunction, stmts_of, StmtTrees, unlined_item, unlined_stmts}
-use Rattle.xs_csyn.specs.Words.{sort_word}
+use Rattle.xs_ctok.specs.Words.{sort_word}
 use Rattle.xs_iface.specs.declared.xsub.Module.{Module}
 use Rattle.xs_iface.specs.declared.xsub.Param.{Param}
 use Rattle.xs_iface.specs.declared.xsub.Term.{Term}
@@ -24,11 +25,11 @@ use Rattle.xs_iface.specs.Iface.{underscored}
 use Rattle.xs_iface.specs.SumForm.{All, IsSumModule, IsSumXsub, IsTermOf}
 use Rattle.xs_iface.specs.Words.{is_free}
 use Rattle.xs_stub.specs.Intended.{boot_tree, call_of, declared_param, inputs_from, int_type, registration, return_one, returned_value, sum_of, sv_pointer, usage_test, work_of, xsub_tree}
-use Rattle.xs_stub.specs.Stub.{joined_names, more_names}
+use Rattle.xs_stub.specs.Stub.{joined_names, more_joined, name_of}
 use Rattle.xs_stub.proofs.Cuts.{Cut, called, fresh, joined, key, later, nothing_cut, number, quoted, sign, two_sorts}
-use Rattle.xs_stub.proofs.GluePieces.{boot_pieces, head_pieces, more_names_pieces, names_pieces, registration_pieces, work_pieces, xsub_pieces}
+use Rattle.xs_stub.proofs.GluePieces.{boot_pieces, head_pieces, more_pieces, names_pieces, registration_pieces, work_pieces, xsub_pieces}
 use Rattle.xs_stub.proofs.GlueWords.{IsWordOf, boot_is_name, decimal_word, free_name, glue_is_word, term_word}
-use Rattle.xs_stub.proofs.Standing.{Body, Functions, FunctionsAt, Items, Stand, StandAt, no_functions, no_stmt, regrouped, stated, then_functions, then_stand}
+use Rattle.xs_stub.proofs.Standing.{Body, Functions, FunctionsAt, Items, Stand, StandAt, each_tree, no_stmt, regrouped, stated, then_trees}
 use Rattle.xs_stub.proofs.Statements.{EndAt, alone, declarations_stand, end_stands, inputs_stand, registrations_stand, results_stand}
 use Rattle.xs_stub.proofs.Sums.{IsSpelled, sum_stands}
 
@@ -42,10 +43,10 @@ longer text name more =
     append_assoc ((text ++ 44 ∷ []) ++ 32 ∷ []) name more
     ∙ append_assoc (text ++ 44 ∷ []) (32 ∷ []) (name ++ more) ∙ append_assoc text (44 ∷ []) (32 ∷ (name ++ more))
 
-more_names_cut : (k : ℕ) (text : List ℕ) (ps : List Param) → All (λ p. is_free p.name ≡ true) ps → Cut (more_names_pieces ps) (at_line k (mode.Text text)) (at_line k (mode.Text (text ++ more_names ps))) []
+more_names_cut : (k : ℕ) (text : List ℕ) (ps : List Param) → All (λ p. is_free p.name ≡ true) ps → Cut (more_pieces (codes ", ") name_of ps) (at_line k (mode.Text text)) (at_line k (mode.Text (text ++ more_joined (codes ", ") name_of ps))) []
 more_names_cut k text [] free = subst (λ t. Cut [] (at_line k (mode.Text text)) (at_line k (mode.Text t)) []) (sym (append-nil text)) (nothing_cut (at_line k (mode.Text text)))
 more_names_cut k text (p ∷ ps) free =
-    subst (λ t. Cut (more_names_pieces (p ∷ ps)) (at_line k (mode.Text text)) (at_line k (mode.Text t)) []) (longer text p.name (more_names ps))
+    subst (λ t. Cut (more_pieces (codes ", ") name_of (p ∷ ps)) (at_line k (mode.Text text)) (at_line k (mode.Text t)) []) (longer text p.name (more_joined (codes ", ") name_of ps))
     (joined (name_cut k text p (free_name p.name free.0).is_name) (more_names_cut k (((text ++ 44 ∷ []) ++ 32 ∷ []) ++ p.name) ps free.1))
 
 first_name_cut : (k : ℕ) (p : Param) → IsName p.name → Cut (Name p.name ∷ []) (at_line k (mode.Text [])) (at_line k (mode.Text p.name)) []
@@ -139,8 +140,8 @@ all_spelled params (t ∷ ts) free h = (term_word params free t h.0, all_spelled
 inner_stands : (x : Xsub) → IsSumXsub x
     → Stand (work_pieces x) (map (declared_param x.line) x.params ++ ((Declare x.line int_type (codes "RETVAL") ∷ Declare x.line sv_pointer (codes "RETVALSV") ∷ []) ++ (inputs_from 0 x.params ++ sum_of x.params x.code_line x.sum)))
 inner_stands x f =
-    then_stand (declarations_stand x.line x.params f.free_params)
-    (then_stand (results_stand x.line) (then_stand (inputs_stand 0 x.params f.free_params (omega (arith, f.few_params)))
+    then_trees (declarations_stand x.line x.params f.free_params)
+    (then_trees (results_stand x.line) (then_trees (inputs_stand 0 x.params f.free_params (omega (arith, f.few_params)))
     (sum_stands x.code_line x.params x.indent x.sum f.first_term f.more_terms f.sum_is (record { bytes = f.blanks }) (all_spelled x.params x.sum f.free_params f.terms) f.few_terms)))
 
 six_regrouped : {A : Type 0} (a b c d e f : List A) → (a ++ (b ++ (c ++ d))) ++ (e ++ f) ≡ a ++ b ++ c ++ d ++ e ++ f
@@ -154,10 +155,10 @@ xsub_with n x meant f grouped work end = record {
   to = end.to;
   tokens = head_tokens n x (work.tokens ++ end.tokens);
   cut = joined (head_cut n x f) (joined work.cut end.cut);
-  onto = λ rest ts more.
+  onto = λ k rest ts more.
       function_stands (n + 1) (later n 2) x.line x.glue _ _ ts rest refl
       (body_stands (later n 3) (later n 4) (later n 5) x ((work.tokens ++ end.tokens) ++ ts) ts end.brace end.closes
-      (regrouped grouped (sym (append_assoc work.tokens end.tokens ts)) (work.onto 0 (returned_value x.output_line ++ return_one x.line) (end.tokens ++ ts) (end.brace ∷ ts) (end.onto ts)))) more;
+      (regrouped grouped (sym (append_assoc work.tokens end.tokens ts)) (work.onto (0, end.brace ∷ ts) (returned_value x.output_line ++ return_one x.line) (end.tokens ++ ts) (end.onto ts)))) more;
 }
 
 xsub_at : (n : ℕ) (x : Xsub) → IsSumXsub x → FunctionsAt (xsub_pieces x) (xsub_tree x ∷ []) n
@@ -169,8 +170,7 @@ xsub_at n x f =
     work (end_stands x.output_line x.line work.to)
 
 pub xsubs_stand : (xs : List Xsub) → All IsSumXsub xs → Functions (flat_map xsub_pieces xs) (map xsub_tree xs)
-xsubs_stand [] f = no_functions
-xsubs_stand (x ∷ xs) f = then_functions (record { at = λ n. xsub_at n x f.0 }) (xsubs_stand xs f.1)
+xsubs_stand xs f = each_tree IsSumXsub xsub_pieces xsub_tree (λ x h. record { at = λ n. xsub_at n x h }) xs f
 
 -- ---- the boot function
 
@@ -199,10 +199,10 @@ boot_with n m f work = record {
       key (n + 1) (codes "XS") ∷ sign (n + 1) (codes "(") ∷ called (n + 1) (codes "boot_" ++ underscored m.boot) ∷ sign (n + 1) (codes ")") ∷ sign (later n 2) (codes "{")
       ∷ key (later n 3) (codes "dXSARGS") ∷ sign (later n 3) (codes ";") ∷ (work.tokens ++ end);
   cut = joined (boot_cut n (underscored m.boot) (boot_is_name m.boot f.boot)) (joined work.cut (boot_end_cut work.to));
-  onto = λ rest ts more.
+  onto = λ k rest ts more.
       function_stands (n + 1) (later n 2) m.boot_line (codes "boot_" ++ underscored m.boot) _ _ ts rest refl
       (stated (Perl (later n 3) form.DxsArgs) (Perl m.boot_line form.DxsArgs) (g.args refl refl) refl (omega arith) (omega arith)
-      (regrouped refl (sym (append_assoc work.tokens end ts)) (work.onto 1 (Perl m.boot_line form.XsReturnYes ∷ []) (end ++ ts) ts
+      (regrouped refl (sym (append_assoc work.tokens end ts)) (work.onto (1, ts) (Perl m.boot_line form.XsReturnYes ∷ []) (end ++ ts)
       (stated (Perl work.to form.XsReturnYes) (Perl m.boot_line form.XsReturnYes) (g.return_yes refl refl) refl (omega arith) (omega arith) (no_stmt (sign (work.to + 1) (codes "}")) ts refl))))) more;
 }
   where

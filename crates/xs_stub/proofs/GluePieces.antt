@@ -2,15 +2,15 @@
 use Rattle.std.proofs.Common.{◌≡◌, ℕ, ◌+◌, List, [], ◌∷◌, ◌++◌, codes, length, refl, sym, ap, append_assoc, append-nil, ◌∙◌}
 use Rattle.std.specs.Fmt.{decimal}
 use Rattle.std.specs.List.{flat_map}
-use Rattle.xs_csyn.specs.Pieces as piece
-use Rattle.xs_csyn.specs.Pieces.{Piece, Plain, Name, Bare, Blank, spelled}
+use Rattle.xs_ctok.specs.Pieces as piece
+use Rattle.xs_ctok.specs.Pieces.{Piece, Plain, Name, Bare, Blank, spelled}
 use Rattle.xs_base.specs.declared.place.Line.{Line}
 use Rattle.xs_iface.specs.declared.xsub.Module.{Module}
 use Rattle.xs_iface.specs.declared.xsub.Param.{Param}
 use Rattle.xs_iface.specs.declared.xsub.Term.{Term}
 use Rattle.xs_iface.specs.declared.xsub.Xsub.{Xsub}
 use Rattle.xs_iface.specs.Iface.{underscored}
-use Rattle.xs_stub.specs.Stub.{c_line_text, more_names, joined_names, declaration_text, input_text, inputs_text, term_text, more_terms, sum_text, head_text, work_text, end_text, xsub_text, registration_text, boot_text, glue_text}
+use Rattle.xs_stub.specs.Stub.{c_line_text, declaration_text, input_text, inputs_text, joined_by, more_joined, name_of, term_text, head_text, work_text, end_text, xsub_text, registration_text, boot_text, glue_text}
 
 -- The pieces spell the text, whatever stands behind it.
 record Spells (text : List ℕ) (ps : List Piece) : Type 0 where
@@ -48,23 +48,26 @@ whole : {t : List ℕ} {ps : List Piece} → Spells t ps → t ≡ spelled ps
 unfolding spelled
 whole {t = t} {ps = ps} s = sym (append-nil t) ∙ s.onto [] ∙ ap spelled (append-nil ps)
 
--- ---- names of parameters
+-- ---- names with a separator between them
 
-abbrev pub more_names_pieces : List Param → List Piece
-more_names_pieces [] = []
-more_names_pieces (p ∷ ps) = Plain (codes ", ") ∷ Name p.name ∷ more_names_pieces ps
+abbrev pub more_pieces : {X : Type 0} → List ℕ → (X → List ℕ) → List X → List Piece
+more_pieces separator text [] = []
+more_pieces separator text (x ∷ xs) = Plain separator ∷ Name (text x) ∷ more_pieces separator text xs
+
+abbrev pub joined_pieces : {X : Type 0} → List ℕ → (X → List ℕ) → List X → List Piece
+joined_pieces separator text [] = []
+joined_pieces separator text (x ∷ xs) = Name (text x) ∷ more_pieces separator text xs
+
+more_spelled : {X : Type 0} (separator : List ℕ) (text : X → List ℕ) (xs : List X) → Spells (more_joined separator text xs) (more_pieces separator text xs)
+more_spelled separator text [] = nothing
+more_spelled separator text (x ∷ xs) = joined (plain separator) (joined (name (text x)) (more_spelled separator text xs))
+
+joined_spelled : {X : Type 0} (separator : List ℕ) (text : X → List ℕ) (xs : List X) → Spells (joined_by separator text xs) (joined_pieces separator text xs)
+joined_spelled separator text [] = nothing
+joined_spelled separator text (x ∷ xs) = joined (name (text x)) (more_spelled separator text xs)
 
 abbrev pub names_pieces : List Param → List Piece
-names_pieces [] = []
-names_pieces (p ∷ ps) = Name p.name ∷ more_names_pieces ps
-
-more_names_spelled : (ps : List Param) → Spells (more_names ps) (more_names_pieces ps)
-more_names_spelled [] = nothing
-more_names_spelled (p ∷ ps) = joined (plain (codes ", ")) (joined (name p.name) (more_names_spelled ps))
-
-names_spelled : (ps : List Param) → Spells (joined_names ps) (names_pieces ps)
-names_spelled [] = nothing
-names_spelled (p ∷ ps) = joined (name p.name) (more_names_spelled ps)
+names_pieces params = joined_pieces (codes ", ") name_of params
 
 -- ---- variables and inputs
 
@@ -92,21 +95,8 @@ inputs_spelled place (p ∷ ps) = joined (input_spelled place p) (inputs_spelled
 
 -- ---- the sum
 
-abbrev pub more_terms_pieces : List Param → List Term → List Piece
-more_terms_pieces params [] = []
-more_terms_pieces params (t ∷ ts) = Plain (codes " + ") ∷ Name (term_text params t) ∷ more_terms_pieces params ts
-
 abbrev pub sum_pieces : List Param → List Term → List Piece
-sum_pieces params [] = []
-sum_pieces params (t ∷ ts) = Name (term_text params t) ∷ more_terms_pieces params ts
-
-more_terms_spelled : (params : List Param) (ts : List Term) → Spells (more_terms params ts) (more_terms_pieces params ts)
-more_terms_spelled params [] = nothing
-more_terms_spelled params (t ∷ ts) = joined (plain (codes " + ")) (joined (name (term_text params t)) (more_terms_spelled params ts))
-
-sum_spelled : (params : List Param) (ts : List Term) → Spells (sum_text params ts) (sum_pieces params ts)
-sum_spelled params [] = nothing
-sum_spelled params (t ∷ ts) = joined (name (term_text params t)) (more_terms_spelled params ts)
+sum_pieces params terms = joined_pieces (codes " + ") (term_text params) terms
 
 -- ---- a glue function
 
@@ -119,7 +109,7 @@ head_spelled : (x : Xsub) → Spells (head_text x) (head_pieces x)
 unfolding head_text
 head_spelled x =
     joined (plain (codes "\nXS(")) (joined (name x.glue) (joined (plain (codes ")\n{\n    dXSARGS;\n    if (items != ")) (joined (name (decimal (length x.params)))
-    (joined (plain (codes ")\n        croak_xs_usage(cv, \"")) (joined (names_spelled x.params) (joined (plain (codes "\");\n    {\n")) nothing))))))
+    (joined (plain (codes ")\n        croak_xs_usage(cv, \"")) (joined (joined_spelled (codes ", ") name_of x.params) (joined (plain (codes "\");\n    {\n")) nothing))))))
 
 abbrev pub work_pieces : Xsub → List Piece
 work_pieces x =
@@ -130,7 +120,7 @@ work_spelled : (x : Xsub) → Spells (work_text x) (work_pieces x)
 unfolding work_text
 work_spelled x =
     joined (all_joined declaration_text declaration_pieces declaration_spelled x.params) (joined (plain (codes "        int RETVAL;\n        SV *RETVALSV;\n"))
-    (joined (inputs_spelled 0 x.params) (joined (blank x.indent) (joined (plain (codes "RETVAL = ")) (joined (sum_spelled x.params x.sum) (joined (plain (codes ";\n")) nothing))))))
+    (joined (inputs_spelled 0 x.params) (joined (blank x.indent) (joined (plain (codes "RETVAL = ")) (joined (joined_spelled (codes " + ") (term_text x.params) x.sum) (joined (plain (codes ";\n")) nothing))))))
 
 abbrev pub xsub_pieces : Xsub → List Piece
 xsub_pieces x = head_pieces x ++ (work_pieces x ++ Plain end_text ∷ [])

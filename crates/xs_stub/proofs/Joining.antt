@@ -1,7 +1,16 @@
 -- Texts one behind the other, each told by an equation.
-use Rattle.std.proofs.Common.{◌≡◌, ℕ, List, [], ◌∷◌}
+use Rattle.std.proofs.Common.{◌≡◌, ℕ, List, [], ◌∷◌, refl, ap, ◌∙◌}
 use Rattle.xs_stub.specs.Stub.{together}
 
-pub seven_told : (t a b c d e f g a' b' c' d' e' f' g' : List ℕ) → t ≡ together (a ∷ b ∷ c ∷ d ∷ e ∷ f ∷ g ∷ []) → a ≡ a' → b ≡ b' → c ≡ c' → d ≡ d' → e ≡ e' → f ≡ f' → g ≡ g'
-    → t ≡ together (a' ∷ b' ∷ c' ∷ d' ∷ e' ∷ f' ∷ g' ∷ [])
-seven_told t a b c d e f g a' b' c' d' e' f' g' h ha hb hc hd he hf hg = cc
+abbrev no_texts : List (List ℕ)
+no_texts = []
+
+pub no_more : no_texts ≡ no_texts
+no_more = refl
+
+infixr 5 ◌then◌
+pub ◌then◌ : {t u : List ℕ} {ts us : List (List ℕ)} → t ≡ u → ts ≡ us → t ∷ ts ≡ u ∷ us
+e then f = cc
+
+pub all_told : {t : List ℕ} {ts us : List (List ℕ)} → ts ≡ us → t ≡ together ts → t ≡ together us
+all_told same told = told ∙ ap together same

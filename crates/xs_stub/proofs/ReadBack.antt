@@ -4,13 +4,13 @@ use Rattle.std.specs.List.{flat_map}
 use Rattle.std.specs.Prelude.{Ok, true}
 use Rattle.xs_base.specs.declared.place.FileOf.TheVariants as file
 use Rattle.xs_base.specs.declared.place.Line.{Line}
-use Rattle.xs_csyn.specs.declared.token.Token.{Token}
-use Rattle.xs_csyn.specs.Lexemes.{Moved, begin, is_passed_line, over, run, start}
-use Rattle.xs_csyn.specs.Pieces.{Piece, Plain, spelled}
-use Rattle.xs_csyn.specs.Tokens.{all_of, before, token_of, tokens_of}
+use Rattle.xs_ctok.specs.declared.token.Token.{Token}
+use Rattle.xs_ctok.specs.Lexemes.{Moved, begin, is_passed_line, over, run, start}
+use Rattle.xs_ctok.specs.Pieces.{Piece, Plain, spelled}
+use Rattle.xs_ctok.specs.Tokens.{all_of, before, token_of, tokens_of}
 use Rattle.xs_csyn.specs.Tree.{ItemTree}
 use Rattle.xs_csyn.proofs.CompleteFiles.{file_complete}
-use Rattle.xs_csyn.proofs.Running.{run-spelled}
+use Rattle.xs_ctok.proofs.Running.{run_spelled}
 use Rattle.xs_values.specs.declared.model.DataModel.TheVariants as model
 use Rattle.xs_iface.specs.declared.xsub.Module.{Module}
 use Rattle.xs_iface.specs.SumForm.{All, IsSumModule}
@@ -19,7 +19,7 @@ use Rattle.xs_stub.specs.Stub.{glue_text}
 use Rattle.xs_stub.proofs.Cuts.{Cut, fresh, joined}
 use Rattle.xs_stub.proofs.GlueFunctions.{boot_stands, xsubs_stand}
 use Rattle.xs_stub.proofs.GluePieces.{boot_pieces, c_line_pieces, glue_pieces, text_in_pieces, xsub_pieces}
-use Rattle.xs_stub.proofs.Standing.{Functions, FunctionsAt, Items, no_items, no_functions, regrouped_items, then_functions}
+use Rattle.xs_stub.proofs.Standing.{Functions, FunctionsAt, Items, no_items, no_trees, regrouped_items, then_trees}
 
 -- ---- the whole text
 
@@ -31,7 +31,7 @@ all_told (t ∷ ts) = ap (before (Ok t)) (all_told ts)
 told : (bytes : List ℕ) (ps : List Piece) (k : ℕ) (ts : List Token) → bytes ≡ spelled ps → Cut ps start (fresh k) ts → tokens_of file.Text bytes ≡ Ok ts
 unfolding tokens_of
 told bytes ps k ts spells c =
-    ap (λ (m : Moved). all_of (map (token_of file.Text) (over m))) (ap (run start) spells ∙ run-spelled start ps c.fine ∙ c.runs)
+    ap (λ (m : Moved). all_of (map (token_of file.Text) (over m))) (ap (run start) spells ∙ run_spelled start ps c.fine ∙ c.runs)
     ∙ ap (λ ls. all_of (map (token_of file.Text) ls)) (append-nil c.lexemes) ∙ ap all_of c.told ∙ all_told ts
 
 comment_cut : Cut (Plain (codes "/* xsubpp glue, data model LP64 */\n") ∷ []) start (fresh 2) []
@@ -50,7 +50,7 @@ of_items m k ts c i = record {
 }
 
 of_functions : (m : Module) → FunctionsAt (flat_map c_line_pieces m.c_part ++ (flat_map xsub_pieces m.xsubs ++ boot_pieces m)) (map xsub_tree m.xsubs ++ boot_tree m ∷ []) 2 → ReadsBack m
-of_functions m f = of_items m f.to f.tokens (joined comment_cut f.cut) (all_items (f.onto [] [] no_items))
+of_functions m f = of_items m f.to f.tokens (joined comment_cut f.cut) (all_items (f.onto tt [] [] no_items))
 
 -- ---- the C part
 
@@ -59,14 +59,14 @@ c_line_at n line passed = record {
   to = n + 1;
   tokens = [];
   cut = record { fine = (record { passed = passed }, tt); lexemes = []; runs = refl; told = refl };
-  onto = λ rest ts more. more;
+  onto = λ k rest ts more. more;
 }
 
 -- Its lines give no token.
 c_part_stands : (lines : List Line) → All (λ line. is_passed_line line.text ≡ true) lines → Functions (flat_map c_line_pieces lines) []
-c_part_stands [] passed = no_functions
-c_part_stands (line ∷ lines) passed = then_functions (record { at = λ n. c_line_at n line passed.0 }) (c_part_stands lines passed.1)
+c_part_stands [] passed = no_trees
+c_part_stands (line ∷ lines) passed = then_trees (record { at = λ n. c_line_at n line passed.0 }) (c_part_stands lines passed.1)
 
 -- The written text of each module of sums reads back.
 pub reads_back : (m : Module) → IsSumModule m → All (λ line. is_passed_line line.text ≡ true) m.c_part → ReadsBack m
-reads_back m f passed = of_functions m ((then_functions (c_part_stands m.c_part passed) (then_functions (xsubs_stand m.xsubs f.xsubs) (boot_stands m f))).at 2)
+reads_back m f passed = of_functions m ((then_trees (c_part_stands m.c_part passed) (then_trees (xsubs_stand m.xsubs f.xsubs) (boot_stands m f))).at 2)

@@ -1,11 +1,13 @@
 -- What stands in a list of tokens by the grammar, and is a tree but for lines.
 use Rattle.std.proofs.Common.{◌≡◌, ℕ, ◌≤◌, max, List, [], ◌∷◌, ◌++◌, codes, map, append_assoc, refl, sym, subst, arith}
-use Rattle.xs_csyn.specs.declared.token.Token.{Token}
+use Rattle.std.specs.List.{flat_map}
+use Rattle.xs_ctok.specs.declared.token.Token.{Token}
 use Rattle.xs_csyn.specs.Grammar as g
 use Rattle.xs_csyn.specs.Grammar.{Declaration, File, Is, Parts, Statement}
 use Rattle.xs_csyn.specs.Heights.{AreWithin, depth, depths, tallest, tallest_of}
-use Rattle.xs_csyn.specs.Pieces.{Piece}
+use Rattle.xs_ctok.specs.Pieces.{Piece}
 use Rattle.xs_csyn.specs.Tree.{ItemTree, MoreStmts, NoStmts, StmtTree, StmtTrees, stmts_of, unlined_item, unlined_stmt, unlined_stmts}
+use Rattle.xs_iface.specs.SumForm.{All}
 use Rattle.xs_stub.proofs.Cuts.{Cut, fresh, joined, nothing_cut}
 
 -- ---- statements
@@ -24,81 +26,106 @@ two_stmts e f = cc
 greatest : (a b c : ℕ) → a ≤ c → b ≤ c → max a b ≤ c
 greatest a b c h k = omega (arith, h, k)
 
-pub stated : {deep : ℕ} {rest : List StmtTree} {ts us vs : List Token} (s meant : StmtTree) → Statement s ts us → unlined_stmt s ≡ unlined_stmt meant → depth s ≤ deep → tallest s ≤ 64
+-- The first of the parts that stand there is this one, whatever the others are.
+abbrev IsFirst : StmtTree → List Token → List Token → Type 0
+IsFirst s ts us = (more : StmtTrees) (vs : List Token) → Parts more us vs → Parts (MoreStmts s more) ts vs
+
+statement_first : {s : StmtTree} {ts us : List Token} → Statement s ts us → IsFirst s ts us
+statement_first stands more vs parts = g.stated stands parts
+
+declaration_first : {s : StmtTree} {ts us : List Token} → Declaration s ts us → IsFirst s ts us
+declaration_first stands more vs parts = g.declared stands parts
+
+with_first : {deep : ℕ} {rest : List StmtTree} {ts us vs : List Token} (s meant : StmtTree) → IsFirst s ts us → unlined_stmt s ≡ unlined_stmt meant → depth s ≤ deep → tallest s ≤ 64
     → Body deep rest us vs → Body deep (meant ∷ rest) ts vs
-stated {deep = deep} s meant stands same flat low more = record {
+with_first {deep = deep} {vs = vs} s meant first same flat low more = record {
   body = MoreStmts s more.body;
-  parts = g.stated stands more.parts;
+  parts = first more.body vs more.parts;
   same = two_stmts same more.same;
   flat = greatest (depth s) (depths more.body) deep flat more.flat;
   low = greatest (tallest s) (tallest_of more.body) 64 low more.low;
 }
 
+pub stated : {deep : ℕ} {rest : List StmtTree} {ts us vs : List Token} (s meant : StmtTree) → Statement s ts us → unlined_stmt s ≡ unlined_stmt meant → depth s ≤ deep → tallest s ≤ 64
+    → Body deep rest us vs → Body deep (meant ∷ rest) ts vs
+stated s meant stands same flat low more = with_first s meant (statement_first stands) same flat low more
+
 pub declared : {deep : ℕ} {rest : List StmtTree} {ts us vs : List Token} (s meant : StmtTree) → Declaration s ts us → unlined_stmt s ≡ unlined_stmt meant → depth s ≤ deep → tallest s ≤ 64
     → Body deep rest us vs → Body deep (meant ∷ rest) ts vs
-declared {deep = deep} s meant stands same flat low more = record {
-  body = MoreStmts s more.body;
-  parts = g.declared stands more.parts;
-  same = two_stmts same more.same;
-  flat = greatest (depth s) (depths more.body) deep flat more.flat;
-  low = greatest (tallest s) (tallest_of more.body) 64 low more.low;
-}
+declared s meant stands same flat low more = with_first s meant (declaration_first stands) same flat low more
 
 pub regrouped : {deep : ℕ} {all meant : List StmtTree} {ts vs us : List Token} → all ≡ meant → ts ≡ vs → Body deep all ts us → Body deep meant vs us
 regrouped {deep = deep} {all = all} {vs = vs} {us = us} e f b = subst (λ l. Body deep l vs us) e (subst (λ l. Body deep all l us) f b)
 
--- The pieces, begun on this line, are statements, which are these but for lines.
-pub record StandAt (ps : List Piece) (all : List StmtTree) (n : ℕ) : Type 0 where
+-- ---- pieces that are trees
+
+-- The pieces, begun on this line, are these trees: whatever holds of others by a family `B` holds of these in front of them.
+pub record TreesAt (K X : Type 0) (B : K → List X → List Token → Type 0) (ps : List Piece) (all : List X) (n : ℕ) : Type 0 where
   pub to : ℕ
   pub tokens : List Token
   pub cut : Cut ps (fresh n) (fresh to) tokens
-  pub onto : (deep : ℕ) (rest : List StmtTree) (ts us : List Token) → Body deep rest ts us → Body deep (all ++ rest) (tokens ++ ts) us
+  pub onto : (k : K) (rest : List X) (ts : List Token) → B k rest ts → B k (all ++ rest) (tokens ++ ts)
 
-pub record Stand (ps : List Piece) (all : List StmtTree) : Type 0 where
-  pub at : (n : ℕ) → StandAt ps all n
+-- So it is on each line.
+pub record AreTrees (K X : Type 0) (B : K → List X → List Token → Type 0) (ps : List Piece) (all : List X) : Type 0 where
+  pub at : (n : ℕ) → TreesAt K X B ps all n
 
-pub no_stmts : Stand [] []
-no_stmts = record { at = λ n. record { to = n; tokens = []; cut = nothing_cut (fresh n); onto = λ deep rest ts us b. b } }
+pub no_trees : {K X : Type 0} {B : K → List X → List Token → Type 0} → AreTrees K X B [] []
+no_trees = record { at = λ n. record { to = n; tokens = []; cut = nothing_cut (fresh n); onto = λ k rest ts h. h } }
 
-pub then_stand : {ps qs : List Piece} {xs ys : List StmtTree} → Stand ps xs → Stand qs ys → Stand (ps ++ qs) (xs ++ ys)
-then_stand {ps = ps} {qs = qs} {xs = xs} {ys = ys} x y = record { at = λ n. both n (x.at n) }
+pub then_trees : {K X : Type 0} {B : K → List X → List Token → Type 0} {ps qs : List Piece} {xs ys : List X} → AreTrees K X B ps xs → AreTrees K X B qs ys → AreTrees K X B (ps ++ qs) (xs ++ ys)
+then_trees {K = K} {X = X} {B = B} {ps = ps} {qs = qs} {xs = xs} {ys = ys} x y = record { at = λ n. both n (x.at n) }
   where
-    both : (n : ℕ) → StandAt ps xs n → StandAt (ps ++ qs) (xs ++ ys) n
+    both : (n : ℕ) → TreesAt K X B ps xs n → TreesAt K X B (ps ++ qs) (xs ++ ys) n
     both n a = let b = y.at a.to in record {
       to = b.to;
       tokens = a.tokens ++ b.tokens;
       cut = joined a.cut b.cut;
-      onto = λ deep rest ts us h.
-          regrouped (sym (append_assoc xs ys rest)) (sym (append_assoc a.tokens b.tokens ts))
-          (a.onto deep (ys ++ rest) (b.tokens ++ ts) us (b.onto deep rest ts us h));
+      onto = λ k rest ts h.
+          subst (λ l. B k l ((a.tokens ++ b.tokens) ++ ts)) (sym (append_assoc xs ys rest))
+          (subst (B k (xs ++ (ys ++ rest))) (sym (append_assoc a.tokens b.tokens ts)) (a.onto k (ys ++ rest) (b.tokens ++ ts) (b.onto k rest ts h)));
     }
 
+-- the pieces of a list, a tree for each of its elements
+pub each_tree : {K X A : Type 0} {B : K → List X → List Token → Type 0} (P : A → Type 0) (pieces : A → List Piece) (tree : A → X) → ((a : A) → P a → AreTrees K X B (pieces a) (tree a ∷ []))
+    → (items : List A) → All P items → AreTrees K X B (flat_map pieces items) (map tree items)
+each_tree P pieces tree one [] h = no_trees
+each_tree P pieces tree one (a ∷ items) h = then_trees (one a h.0) (each_tree P pieces tree one items h.1)
+
+-- ---- pieces that are statements
+
+-- by how deep they may be, and by what stands behind them
+abbrev InBody : ℕ × List Token → List StmtTree → List Token → Type 0
+InBody k all ts = Body k.0 all ts k.1
+
+abbrev pub StandAt : List Piece → List StmtTree → ℕ → Type 0
+StandAt ps all n = TreesAt (ℕ × List Token) StmtTree InBody ps all n
+
+abbrev pub Stand : List Piece → List StmtTree → Type 0
+Stand ps all = AreTrees (ℕ × List Token) StmtTree InBody ps all
+
 -- one statement, in which no other stands
-pub one_stated : {ps : List Piece} {n to : ℕ} {tokens : List Token} (s meant : StmtTree) → Cut ps (fresh n) (fresh to) tokens → ((ts : List Token) → Statement s (tokens ++ ts) ts)
+one_first : {ps : List Piece} {n to : ℕ} {tokens : List Token} (s meant : StmtTree) → Cut ps (fresh n) (fresh to) tokens → ((ts : List Token) → IsFirst s (tokens ++ ts) ts)
     → unlined_stmt s ≡ unlined_stmt meant → depth s ≡ 0 → tallest s ≤ 64 → StandAt ps (meant ∷ []) n
-one_stated {to = to} {tokens = tokens} s meant cut stands same flat low = record {
+one_first {to = to} {tokens = tokens} s meant cut first same flat low = record {
   to = to;
   tokens = tokens;
   cut = cut;
-  onto = λ deep rest ts us h. stated s meant (stands ts) same (omega (arith, flat)) low h;
+  onto = λ k rest ts h. with_first s meant (first ts) same (omega (arith, flat)) low h;
 }
+
+pub one_stated : {ps : List Piece} {n to : ℕ} {tokens : List Token} (s meant : StmtTree) → Cut ps (fresh n) (fresh to) tokens → ((ts : List Token) → Statement s (tokens ++ ts) ts)
+    → unlined_stmt s ≡ unlined_stmt meant → depth s ≡ 0 → tallest s ≤ 64 → StandAt ps (meant ∷ []) n
+one_stated s meant cut stands same flat low = one_first s meant cut (λ ts. statement_first (stands ts)) same flat low
 
 pub one_declared : {ps : List Piece} {n to : ℕ} {tokens : List Token} (s meant : StmtTree) → Cut ps (fresh n) (fresh to) tokens → ((ts : List Token) → Declaration s (tokens ++ ts) ts)
     → unlined_stmt s ≡ unlined_stmt meant → depth s ≡ 0 → tallest s ≤ 64 → StandAt ps (meant ∷ []) n
-one_declared {to = to} {tokens = tokens} s meant cut stands same flat low = record {
-  to = to;
-  tokens = tokens;
-  cut = cut;
-  onto = λ deep rest ts us h. declared s meant (stands ts) same (omega (arith, flat)) low h;
-}
+one_declared s meant cut stands same flat low = one_first s meant cut (λ ts. declaration_first (stands ts)) same flat low
 
 pub no_stmt : {deep : ℕ} (brace : Token) (ts : List Token) → Is (codes "}") brace → Body deep [] (brace ∷ ts) ts
 no_stmt brace ts is = record { body = NoStmts; parts = g.over is; same = refl; flat = omega arith; low = omega arith }
 
--- ---- functions
-
-two_items : {a b : ItemTree} {c d : List ItemTree} → a ≡ b → c ≡ d → a ∷ c ≡ b ∷ d
-two_items e f = cc
+-- ---- pieces that are functions
 
 -- There stand functions up to the end, which are these but for lines.
 pub record Items (all : List ItemTree) (ts : List Token) : Type 0 where
@@ -110,30 +137,15 @@ pub record Items (all : List ItemTree) (ts : List Token) : Type 0 where
 pub no_items : Items [] []
 no_items = record { trees = []; stands = g.nothing; within = tt; same = refl }
 
--- The pieces, begun on this line, are functions, which are these but for lines.
-pub record FunctionsAt (ps : List Piece) (all : List ItemTree) (n : ℕ) : Type 0 where
-  pub to : ℕ
-  pub tokens : List Token
-  pub cut : Cut ps (fresh n) (fresh to) tokens
-  pub onto : (rest : List ItemTree) (ts : List Token) → Items rest ts → Items (all ++ rest) (tokens ++ ts)
+-- by nothing else
+abbrev InFile : Unit {0} → List ItemTree → List Token → Type 0
+InFile k all ts = Items all ts
 
-pub record Functions (ps : List Piece) (all : List ItemTree) : Type 0 where
-  pub at : (n : ℕ) → FunctionsAt ps all n
+abbrev pub FunctionsAt : List Piece → List ItemTree → ℕ → Type 0
+FunctionsAt ps all n = TreesAt (Unit {0}) ItemTree InFile ps all n
 
-pub no_functions : Functions [] []
-no_functions = record { at = λ n. record { to = n; tokens = []; cut = nothing_cut (fresh n); onto = λ rest ts h. h } }
+abbrev pub Functions : List Piece → List ItemTree → Type 0
+Functions ps all = AreTrees (Unit {0}) ItemTree InFile ps all
 
 pub regrouped_items : {all meant : List ItemTree} {ts us : List Token} → all ≡ meant → ts ≡ us → Items all ts → Items meant us
 regrouped_items {all = all} {us = us} e f h = subst (λ l. Items l us) e (subst (Items all) f h)
-
-pub then_functions : {ps qs : List Piece} {xs ys : List ItemTree} → Functions ps xs → Functions qs ys → Functions (ps ++ qs) (xs ++ ys)
-then_functions {ps = ps} {qs = qs} {xs = xs} {ys = ys} x y = record { at = λ n. both n (x.at n) }
-  where
-    both : (n : ℕ) → FunctionsAt ps xs n → FunctionsAt (ps ++ qs) (xs ++ ys) n
-    both n a = let b = y.at a.to in record {
-      to = b.to;
-      tokens = a.tokens ++ b.tokens;
-      cut = joined a.cut b.cut;
-      onto = λ rest ts h.
-          regrouped_items (sym (append_assoc xs ys rest)) (sym (append_assoc a.tokens b.tokens ts)) (a.onto (ys ++ rest) (b.tokens ++ ts) (b.onto rest ts h));
-    }

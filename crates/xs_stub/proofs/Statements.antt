@@ -4,15 +4,15 @@ use Rattle.std.specs.Fmt.{decimal}
 use Rattle.std.specs.List.{flat_map}
 use Rattle.std.specs.Prelude.{Ok, true}
 use Rattle.xs_base.specs.declared.place.FileOf.TheVariants as file
-use Rattle.xs_csyn.specs.declared.token.Sort.TheVariants as sort
-use Rattle.xs_csyn.specs.declared.token.Token.{Token}
+use Rattle.xs_ctok.specs.declared.token.Sort.TheVariants as sort
+use Rattle.xs_ctok.specs.declared.token.Token.{Token}
 use Rattle.xs_csyn.specs.Grammar as g
 use Rattle.xs_csyn.specs.Grammar.{Unary, Whole}
-use Rattle.xs_csyn.specs.Lexemes.{Lexeme, Sign, Text, Word, begin}
-use Rattle.xs_csyn.specs.Pieces.{Plain, IsBare}
-use Rattle.xs_csyn.specs.Tokens.{word_token}
+use Rattle.xs_ctok.specs.Lexemes.{Lexeme, Sign, Text, Word, begin}
+use Rattle.xs_ctok.specs.Pieces.{Plain, IsBare}
+use Rattle.xs_ctok.specs.Tokens.{word_token}
 use Rattle.xs_csyn.specs.Tree.{ExprTree, Var, Num, Set, Cast, StPlace, StmtTree, Declare, Effect}
-use Rattle.xs_csyn.specs.Words.{sort_word}
+use Rattle.xs_ctok.specs.Words.{sort_word}
 use Rattle.xs_iface.specs.declared.xsub.Param.{Param}
 use Rattle.xs_iface.specs.declared.xsub.Xsub.{Xsub}
 use Rattle.xs_iface.specs.SumForm.{All, IsSumXsub}
@@ -22,7 +22,7 @@ use Rattle.xs_stub.specs.Stub.{end_text}
 use Rattle.xs_stub.proofs.Cuts.{Cut, called, fresh, key, later, number, quoted, sign, two_sorts}
 use Rattle.xs_stub.proofs.GluePieces.{declaration_pieces, input_pieces, inputs_pieces, registration_pieces}
 use Rattle.xs_stub.proofs.GlueWords.{IsWordOf, decimal_word, free_name, full_is_bare, glue_is_word}
-use Rattle.xs_stub.proofs.Standing.{Body, Stand, declared, no_stmt, no_stmts, one_declared, one_stated, stated, then_stand}
+use Rattle.xs_stub.proofs.Standing.{Body, Stand, declared, each_tree, no_stmt, no_trees, one_declared, one_stated, stated, then_trees}
 
 pub alone : {a : ExprTree} {ts us : List Token} → Unary a ts us → Whole a ts us
 alone u = g.is_comparison (g.is_sum (g.is_unary u))
@@ -45,8 +45,7 @@ declaration_stands line p free = record {
 
 -- a variable for each parameter
 pub declarations_stand : (line : ℕ) (params : List Param) → All (λ p. is_free p.name ≡ true) params → Stand (flat_map declaration_pieces params) (map (declared_param line) params)
-declarations_stand line [] free = no_stmts
-declarations_stand line (p ∷ ps) free = then_stand (declaration_stands line p free.0) (declarations_stand line ps free.1)
+declarations_stand line params free = each_tree (λ p. is_free p.name ≡ true) declaration_pieces (declared_param line) (declaration_stands line) params free
 
 results_cut : (n : ℕ) → Cut (Plain (codes "        int RETVAL;\n        SV *RETVALSV;\n") ∷ []) (fresh n) (fresh (later n 2))
     (key n (codes "int") ∷ key n (codes "RETVAL") ∷ sign n (codes ";") ∷ key (n + 1) (codes "SV") ∷ sign (n + 1) (codes "*") ∷ key (n + 1) (codes "RETVALSV") ∷ sign (n + 1) (codes ";") ∷ [])
@@ -66,7 +65,7 @@ results_stand line = record {
     to = later n 2;
     tokens = key n (codes "int") ∷ key n (codes "RETVAL") ∷ sign n (codes ";") ∷ key (n + 1) (codes "SV") ∷ sign (n + 1) (codes "*") ∷ key (n + 1) (codes "RETVALSV") ∷ sign (n + 1) (codes ";") ∷ [];
     cut = results_cut n;
-    onto = λ deep rest ts us h.
+    onto = λ k rest ts h.
         declared (Declare n int_type (codes "RETVAL")) (Declare line int_type (codes "RETVAL")) (g.declare (g.type_word refl g.no_star) refl refl) refl (omega arith) (omega arith)
         (declared (Declare (n + 1) sv_pointer (codes "RETVALSV")) (Declare line sv_pointer (codes "RETVALSV")) (g.declare (g.type_word refl (g.star refl g.no_star)) refl refl) refl (omega arith) (omega arith) h);
   };
@@ -101,8 +100,8 @@ input_stands place p free few = record {
 
 -- Each parameter's variable gets its argument.
 pub inputs_stand : (place : ℕ) (params : List Param) → All (λ p. is_free p.name ≡ true) params → place + length params ≤ 64 → Stand (inputs_pieces place params) (inputs_from place params)
-inputs_stand place [] free few = no_stmts
-inputs_stand place (p ∷ ps) free few = then_stand (input_stands place p free.0 (omega (arith, few))) (inputs_stand (place + 1) ps free.1 (omega (arith, few)))
+inputs_stand place [] free few = no_trees
+inputs_stand place (p ∷ ps) free few = then_trees (input_stands place p free.0 (omega (arith, few))) (inputs_stand (place + 1) ps free.1 (omega (arith, few)))
 
 -- ---- the end
 
@@ -198,5 +197,4 @@ registration_stands line x f = record {
 
 -- Each glue function is registered.
 pub registrations_stand : (line : ℕ) (xs : List Xsub) → All IsSumXsub xs → Stand (flat_map registration_pieces xs) (map (registration line) xs)
-registrations_stand line [] f = no_stmts
-registrations_stand line (x ∷ xs) f = then_stand (registration_stands line x f.0) (registrations_stand line xs f.1)
+registrations_stand line xs f = each_tree IsSumXsub registration_pieces (registration line) (registration_stands line) xs f

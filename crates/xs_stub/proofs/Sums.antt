@@ -2,19 +2,20 @@
 use Rattle.std.proofs.Common.{◌≡◌, ℕ, ◌+◌, ◌≤◌, max, List, [], ◌∷◌, ◌++◌, codes, fold, false, length, refl, ap, arith}
 use Rattle.std.specs.Prelude.{Ok}
 use Rattle.xs_base.specs.declared.place.FileOf.TheVariants as file
-use Rattle.xs_csyn.specs.declared.state.Mode.TheVariants as mode
-use Rattle.xs_csyn.specs.declared.token.Token.{Token}
+use Rattle.xs_ctok.specs.declared.state.Mode.TheVariants as mode
+use Rattle.xs_ctok.specs.declared.token.Token.{Token}
 use Rattle.xs_csyn.specs.declared.tree.BinaryOp.TheVariants as op
 use Rattle.xs_csyn.specs.Grammar as g
 use Rattle.xs_csyn.specs.Grammar.{Sum, Unary, line_of}
 use Rattle.xs_csyn.specs.Heights.{height}
 use Rattle.xs_csyn.specs.Input.{is_key}
-use Rattle.xs_csyn.specs.Lexemes.{Sign, Word, at_line, begin}
-use Rattle.xs_csyn.specs.Pieces.{Plain, Name, Blank, IsBlank}
+use Rattle.xs_ctok.specs.Lexemes.{Sign, Word, at_line, begin}
+use Rattle.xs_ctok.specs.declared.state.State.{State}
+use Rattle.xs_ctok.specs.Pieces.{Plain, Name, Blank, IsBlank, run_pieces}
 use Rattle.xs_csyn.specs.Stmts.{is_new_xs}
-use Rattle.xs_csyn.specs.Tokens.{token, word_token}
+use Rattle.xs_ctok.specs.Tokens.{token, word_token}
 use Rattle.xs_csyn.specs.Tree.{ExprTree, StmtTree, Effect, Set, Two, VarPlace, unlined_expr}
-use Rattle.xs_csyn.specs.Words.{sort_word}
+use Rattle.xs_ctok.specs.Words.{sort_word}
 use Rattle.xs_iface.specs.declared.xsub.Param.{Param}
 use Rattle.xs_iface.specs.declared.xsub.Term.{Term}
 use Rattle.xs_iface.specs.declared.xsub.Term.TheVariants.{Literal, Parameter}
@@ -22,7 +23,7 @@ use Rattle.xs_iface.specs.SumForm.{All}
 use Rattle.xs_stub.specs.Intended.{assign, sum_of, term_tree}
 use Rattle.xs_stub.specs.Stub.{term_text}
 use Rattle.xs_stub.proofs.Cuts.{Cut, fresh, joined, key, sign}
-use Rattle.xs_stub.proofs.GluePieces.{more_terms_pieces, sum_pieces}
+use Rattle.xs_stub.proofs.GluePieces.{more_pieces, sum_pieces}
 use Rattle.xs_stub.proofs.GlueWords.{IsWordOf, sort_of_term}
 use Rattle.xs_stub.proofs.Standing.{Body, Stand, StandAt, stated}
 
@@ -40,28 +41,29 @@ more_tokens n params (t ∷ ts) = sign n (codes "+") ∷ term_token n params t �
 abbrev pub IsSpelled : List Param → Term → Type 0
 IsSpelled params t = IsWordOf (sort_of_term t) (term_text params t)
 
+-- a term, and a text behind it that is cut into one mark
+term_cut : (n : ℕ) (params : List Param) (t : Term) (text mark : List ℕ) (after : State) → IsSpelled params t
+    → run_pieces (at_line n mode.Between) (Name (term_text params t) ∷ Plain text ∷ []) ≡ record { state = after; lexemes = Word n (term_text params t) ∷ Sign n mark ∷ [] }
+    → Cut (Name (term_text params t) ∷ Plain text ∷ []) (at_line n mode.Between) after (term_token n params t ∷ sign n mark ∷ [])
+term_cut n params t text mark after w runs = record {
+  fine = (w.is_name, tt);
+  lexemes = Word n (term_text params t) ∷ Sign n mark ∷ [];
+  runs = runs;
+  told = ap (λ s. word_token file.Text n (term_text params t) s ∷ Ok (sign n mark) ∷ []) w.sort;
+}
+
 last_term_cut : (n : ℕ) (params : List Param) (t : Term) → IsSpelled params t
     → Cut (Name (term_text params t) ∷ Plain (codes ";\n") ∷ []) (at_line n mode.Between) (fresh (n + 1)) (term_token n params t ∷ sign n (codes ";") ∷ [])
 unfolding begin
-last_term_cut n params t w = record {
-  fine = (w.is_name, tt);
-  lexemes = Word n (term_text params t) ∷ Sign n (codes ";") ∷ [];
-  runs = refl;
-  told = ap (λ s. word_token file.Text n (term_text params t) s ∷ Ok (sign n (codes ";")) ∷ []) w.sort;
-}
+last_term_cut n params t w = term_cut n params t (codes ";\n") (codes ";") (fresh (n + 1)) w refl
 
 inner_term_cut : (n : ℕ) (params : List Param) (t : Term) → IsSpelled params t
     → Cut (Name (term_text params t) ∷ Plain (codes " + ") ∷ []) (at_line n mode.Between) (at_line n mode.Between) (term_token n params t ∷ sign n (codes "+") ∷ [])
 unfolding begin
-inner_term_cut n params t w = record {
-  fine = (w.is_name, tt);
-  lexemes = Word n (term_text params t) ∷ Sign n (codes "+") ∷ [];
-  runs = refl;
-  told = ap (λ s. word_token file.Text n (term_text params t) s ∷ Ok (sign n (codes "+")) ∷ []) w.sort;
-}
+inner_term_cut n params t w = term_cut n params t (codes " + ") (codes "+") (at_line n mode.Between) w refl
 
 terms_cut : (n : ℕ) (params : List Param) (t : Term) (ts : List Term) → IsSpelled params t → All (IsSpelled params) ts
-    → Cut (Name (term_text params t) ∷ (more_terms_pieces params ts ++ Plain (codes ";\n") ∷ [])) (at_line n mode.Between) (fresh (n + 1)) (term_token n params t ∷ more_tokens n params ts)
+    → Cut (Name (term_text params t) ∷ (more_pieces (codes " + ") (term_text params) ts ++ Plain (codes ";\n") ∷ [])) (at_line n mode.Between) (fresh (n + 1)) (term_token n params t ∷ more_tokens n params ts)
 terms_cut n params t [] w ws = last_term_cut n params t w
 terms_cut n params t (u ∷ us) w ws = joined (inner_term_cut n params t w) (terms_cut n params u us ws.0 ws.1)
 
@@ -138,7 +140,7 @@ sum_at n m params indent t ts blank spelled few = record {
   to = n + 1;
   tokens = key n (codes "RETVAL") ∷ sign n (codes "=") ∷ term_token n params t ∷ more_tokens n params ts;
   cut = joined (line_cut n indent blank) (terms_cut n params t ts spelled.0 spelled.1);
-  onto = λ deep rest vs us h. onto deep rest vs us (grown n m params ts (term_tree params m t) 1 (term_token n params t ∷ (more_tokens n params ts ++ vs)) vs (omega arith) (first_sum n m params t (more_tokens n params ts ++ vs))) h;
+  onto = λ k rest vs h. onto k.0 rest vs k.1 (grown n m params ts (term_tree params m t) 1 (term_token n params t ∷ (more_tokens n params ts ++ vs)) vs (omega arith) (first_sum n m params t (more_tokens n params ts ++ vs))) h;
 }
   where
     sum_tree : ExprTree

@@ -11,19 +11,27 @@ use Rattle.xs_iface.specs.declared.xsub.Term.TheVariants.{Literal, Parameter}
 use Rattle.xs_iface.specs.declared.xsub.Xsub.{Xsub}
 use Rattle.xs_iface.specs.Iface.{underscored}
 
--- the names of parameters, each but the first behind a comma and a space
-abbrev pub more_names : List Param → List ℕ
-more_names [] = []
-more_names (p ∷ ps) = codes ", " ++ (p.name ++ more_names ps)
-
-abbrev pub joined_names : List Param → List ℕ
-joined_names [] = []
-joined_names (p ∷ ps) = p.name ++ more_names ps
-
 -- texts one behind the other
 abbrev pub together : List (List ℕ) → List ℕ
 together [] = []
 together (t ∷ ts) = t ++ together ts
+
+-- the texts of a list's elements, each behind a separator
+abbrev pub more_joined : {X : Type 0} → List ℕ → (X → List ℕ) → List X → List ℕ
+more_joined separator text [] = []
+more_joined separator text (x ∷ xs) = separator ++ (text x ++ more_joined separator text xs)
+
+-- the texts of a list's elements, with a separator between them
+abbrev pub joined_by : {X : Type 0} → List ℕ → (X → List ℕ) → List X → List ℕ
+joined_by separator text [] = []
+joined_by separator text (x ∷ xs) = text x ++ more_joined separator text xs
+
+-- the names of parameters, with a comma and a space between them
+abbrev pub name_of : Param → List ℕ
+name_of p = p.name
+
+abbrev pub joined_names : List Param → List ℕ
+joined_names params = joined_by (codes ", ") name_of params
 
 -- a variable for a parameter
 unfoldable pub declaration_text : Param → List ℕ
@@ -45,14 +53,9 @@ abbrev pub term_text : List Param → Term → List ℕ
 term_text params (Parameter at) = name_or_nothing (slice_get params at)
 term_text params (Literal value) = decimal value
 
-abbrev pub more_terms : List Param → List Term → List ℕ
-more_terms params [] = []
-more_terms params (t ∷ ts) = codes " + " ++ (term_text params t ++ more_terms params ts)
-
--- the terms of a sum, each but the first behind a plus
+-- the terms of a sum, with a plus between them
 abbrev pub sum_text : List Param → List Term → List ℕ
-sum_text params [] = []
-sum_text params (t ∷ ts) = term_text params t ++ more_terms params ts
+sum_text params terms = joined_by (codes " + ") (term_text params) terms
 
 -- The head of a glue function, with the test of the number of arguments and its croak.
 unfoldable pub head_text : Xsub → List ℕ

@@ -103,6 +103,14 @@ pub fn with_more(all: Vec<Stmt>, one: Stmt) -> Result<Vec<Stmt>, Memory>
     Ok(all)
 }
 
+// Two statements more.
+#[tactic(auto, using(std::proofs::Common::append_assoc))]
+fn with_two(all: Vec<Stmt>, one: Stmt, other: Stmt) -> Result<Vec<Stmt>, Memory>
+    ensures { IfOk result (λ v. plain_stmts v ≡ plain_stmts all ++ (plain_stmt one ∷ plain_stmt other ∷ [])) }
+{
+    with_more(with_more(all, one)?, other)
+}
+
 /// The first statement of an XS function.
 pub fn begun(alloc: Global, line: u32) -> Result<Vec<Stmt>, Memory>
     ensures { IfOk result (λ v. plain_stmts v ≡ t.Perl line form.DxsArgs ∷ []) }
@@ -129,7 +137,6 @@ fn with_declarations(
 }
 
 // The variables of the returned value.
-#[tactic(auto, using(std::proofs::Common::append_assoc))]
 fn with_result(alloc: Global, all: Vec<Stmt>, line: u32) -> Result<Vec<Stmt>, Memory>
     ensures { IfOk result (λ v. plain_stmts v ≡ plain_stmts all ++ (t.Declare line spec.int_type (codes "RETVAL") ∷ t.Declare line spec.sv_pointer (codes "RETVALSV") ∷ [])) }
 {
@@ -137,7 +144,7 @@ fn with_result(alloc: Global, all: Vec<Stmt>, line: u32) -> Result<Vec<Stmt>, Me
     let value = declared(alloc, line, int_type, b"RETVAL")?;
     let sv_pointer = type_of(alloc, b"SV", 1)?;
     let scalar = declared(alloc, line, sv_pointer, b"RETVALSV")?;
-    with_more(with_more(all, value)?, scalar)
+    with_two(all, value, scalar)
 }
 
 // Each parameter's variable gets its argument, in the order of the list.
@@ -193,12 +200,10 @@ fn set_value(alloc: Global, line: u32) -> Result<Stmt, Memory>
 }
 
 // RETVAL becomes the value of a new mortal.
-#[tactic(auto, using(std::proofs::Common::append_assoc))]
 fn with_value(alloc: Global, all: Vec<Stmt>, line: u32) -> Result<Vec<Stmt>, Memory>
     ensures { IfOk result (λ v. plain_stmts v ≡ plain_stmts all ++ spec.returned_value line) }
 {
-    let all = with_more(all, new_mortal(alloc, line)?)?;
-    with_more(all, set_value(alloc, line)?)
+    with_two(all, new_mortal(alloc, line)?, set_value(alloc, line)?)
 }
 
 // The mortal is put first.
@@ -218,12 +223,10 @@ fn return_item(alloc: Global, line: u32) -> Result<Stmt, Memory>
 }
 
 // That mortal is the one item on the stack.
-#[tactic(auto, using(std::proofs::Common::append_assoc))]
 fn with_return(alloc: Global, all: Vec<Stmt>, line: u32) -> Result<Vec<Stmt>, Memory>
     ensures { IfOk result (λ v. plain_stmts v ≡ plain_stmts all ++ spec.return_one line) }
 {
-    let all = with_more(all, put_mortal(alloc, line)?)?;
-    with_more(all, return_item(alloc, line)?)
+    with_two(all, put_mortal(alloc, line)?, return_item(alloc, line)?)
 }
 
 // What an XSUB does once its arguments are as many as its parameters.

@@ -1,7 +1,7 @@
 //! Laws of the glue text, for all modules.
 
 ghost use Rattle.std.specs.Prelude.{◌≡◌, true};
-ghost use Rattle.xs_csyn.specs.Lexemes.{is_passed_line};
+ghost use Rattle.xs_ctok.specs.Lexemes.{is_passed_line};
 ghost use Rattle.xs_iface.specs.SumForm.{All, IsSumModule};
 ghost use Rattle.xs_iface.specs.declared.xsub.Module.{Module};
 ghost use Rattle.xs_stub.specs.Intended.{ReadsBack};

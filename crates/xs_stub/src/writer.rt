@@ -1,8 +1,8 @@
 //! The glue text of a module: the C by which Perl calls its XSUBs.
 ghost use Rattle.std.specs.Fmt.{decimal};
 ghost use Rattle.std.specs.List.{flat_map};
-ghost use Rattle.std.specs.Prelude.{◌≡◌, IfOk, map};
-ghost use Rattle.xs_stub.specs.Stub.{boot_text, c_line_text, declaration_text, end_text, glue_text, head_text, input_text, inputs_text, joined_names, more_names, more_terms, registration_text, sum_text, term_text, together, work_text, xsub_text};
+ghost use Rattle.std.specs.Prelude.{◌≡◌, IfOk, codes, map};
+ghost use Rattle.xs_stub.specs.Stub.{boot_text, c_line_text, declaration_text, end_text, glue_text, head_text, input_text, inputs_text, joined_names, more_joined, name_of, registration_text, sum_text, term_text, together, work_text, xsub_text};
 
 use std::alloc::Global;
 use xs_base::{Bytes, Line, Memory};
@@ -145,7 +145,7 @@ pub fn write_names(alloc: Global, params: &[Param]) -> Result<Bytes, Memory>
 
 #[tactic(auto, using(std::proofs::Common::append_assoc))]
 fn write_more_names(alloc: Global, params: &[Param]) -> Result<Bytes, Memory>
-    ensures { IfOk result (λ text. text ≡ more_names params.now) }
+    ensures { IfOk result (λ text. text ≡ more_joined (codes ", ") name_of params.now) }
 {
     let mut text = Bytes::new(alloc);
     for param in params {
@@ -217,7 +217,7 @@ fn write_sum(alloc: Global, params: &[Param], terms: &[Term]) -> Result<Bytes, M
 
 #[tactic(auto, using(std::proofs::Common::append_assoc))]
 fn write_more_terms(alloc: Global, params: &[Param], terms: &[Term]) -> Result<Bytes, Memory>
-    ensures { IfOk result (λ text. text ≡ more_terms params.now terms.now) }
+    ensures { IfOk result (λ text. text ≡ more_joined (codes " + ") (term_text params.now) terms.now) }
 {
     let mut text = Bytes::new(alloc);
     for term in terms {

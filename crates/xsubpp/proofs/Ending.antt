@@ -6,9 +6,10 @@ use Rattle.xs_base.specs.Sinks.{appended, AppendsPrefix}
 use Rattle.xsubpp.specs.declared.status.Status.{Status}
 use Rattle.xsubpp.specs.declared.status.Status.TheVariants.{Done, Refused, Usage, Missing, ReadFault, WriteFault, Memory}
 use Rattle.xsubpp.specs.declared.answer.Answer.{Answer}
-use Rattle.xsubpp.specs.Answers.{answer, answer_to, Ends, IsStatus}
-use Rattle.xsubpp.specs.Reads.{IsAnswerOf}
+use Rattle.xsubpp.specs.Answers.{answer, answer_to, Ends, EndsByReads, IsStatus}
+use Rattle.xsubpp.specs.Reads.{IsAnswerOf, IsByReads}
 use Rattle.xsubpp.specs.Words.{Command, command_of}
+use Rattle.xsubpp.proofs.FilesTold.{unlike}
 
 same_answer : (words : List (List ℕ)) (files : Files) (command : Command) (told : Option Files) (before now : ℕ) (a : Answer)
     → IsAnswerOf told command before now a → command_of words ≡ Some command → told ≡ Some files → a.status ≢ ReadFault → a ≡ answer words files
@@ -20,39 +21,54 @@ its_status : (a : Answer) (result : Status) → (result ≡ a.status) ⊎ (resul
 its_status a result (inl e) not_write = e
 its_status a result (inr e) not_write = absurd (not_write e)
 
+-- A run ended with the status of an answer and wrote its texts, or it could not write.
+pub record IsOut (a : Answer) (result : Status) (out out' err err' : Option (List ℕ)) : Type 0 where
+  pub was : (result ≡ a.status) ⊎ (result ≡ WriteFault)
+  pub out_is : result ≢ WriteFault → out' ≡ appended out a.out
+  pub err_is : result ≢ WriteFault → err' ≡ appended err a.err
+
+pub is_out : (a : Answer) (out_text err_text : List ℕ) (result : Status) (out out' err err' : Option (List ℕ)) → (result ≡ a.status) ⊎ (result ≡ WriteFault)
+    → (result ≢ WriteFault → out' ≡ appended out out_text) → (result ≢ WriteFault → err' ≡ appended err err_text) → out_text ≡ a.out → err_text ≡ a.err → IsOut a result out out' err err'
+is_out a out_text err_text result out out' err err' was out_is err_is out_same err_same =
+    record { was = was; out_is = λ e. out_is e ∙ ap (appended out) out_same; err_is = λ e. err_is e ∙ ap (appended err) err_same }
+
+-- a run that ended with an answer that is another
+ends_by : (a b : Answer) (s result : Status) (out out' err err' : Option (List ℕ)) → a ≡ b → IsOut a result out out' err err' → s ≢ WriteFault → result ≡ s → Ends b s out out' err err'
+ends_by a b s result out out' err err' same told no_write is =
+    let not_write : result ≢ WriteFault = λ e. no_write (sym is ∙ e) in
+    let P : Answer → Type 0 = λ x. Ends x s out out' err err' in
+    subst P same (record { status_is = sym (its_status a result told.was not_write) ∙ is; out_is = told.out_is not_write; err_is = told.err_is not_write })
+
+pub ends_by_reads : (words : List (List ℕ)) (command : Command) (a : Answer) (s result : Status) (out out' err err' : Option (List ℕ)) → command_of words ≡ Some command → IsByReads command a
+    → IsOut a result out out' err err' → s ≢ WriteFault → result ≡ s → EndsByReads words s out out' err err'
+ends_by_reads words command a s result out out' err err' said reads told no_write is =
+    record { command = command; given = reads.0; is_said = said; ends = ends_by a _ s result out out' err err' reads.1 told no_write is }
+
 pub ends : (words : List (List ℕ)) (files : Files) (command : Command) (told : Option Files) (before now : ℕ) (a : Answer) (s result : Status) (out out' err err' : Option (List ℕ))
     → IsAnswerOf told command before now a → command_of words ≡ Some command → told ≡ Some files
-    → (result ≡ a.status) ⊎ (result ≡ WriteFault) → (result ≢ WriteFault → out' ≡ appended out a.out) → (result ≢ WriteFault → err' ≡ appended err a.err)
-    → s ≢ WriteFault → s ≢ ReadFault → result ≡ s → Ends (answer words files) s out out' err err'
-ends words files command told before now a s result out out' err err' h said tells was out_is err_is no_write no_read is =
-    let not_write : result ≢ WriteFault = λ e. no_write (sym is ∙ e) in
-    let status : a.status ≡ s = sym (its_status a result was not_write) ∙ is in
-    let same = same_answer words files command told before now a h said tells (λ e. no_read (sym status ∙ e)) in
-    let P : Answer → Type 0 = λ b. Ends b s out out' err err' in
-    subst P same (record { status_is = status; out_is = out_is not_write; err_is = err_is not_write })
+    → IsOut a result out out' err err' → s ≢ WriteFault → s ≢ ReadFault → result ≡ s → Ends (answer words files) s out out' err err'
+ends words files command told before now a s result out out' err err' h said tells written no_write no_read is =
+    let status : a.status ≡ s = sym (its_status a result written.was (λ e. no_write (sym is ∙ e))) ∙ is in
+    ends_by a (answer words files) s result out out' err err' (same_answer words files command told before now a h said tells (λ e. no_read (sym status ∙ e))) written no_write is
 
 pub appended-nil : (told : Option (List ℕ)) → appended told [] ≡ told
 appended-nil None = refl
 appended-nil (Some bytes) = ap Some (append-nil bytes)
 
-pub untouched : (told : Option Files) (command : Command) (before now : ℕ) (a : Answer) (result : Status) (out out' : Option (List ℕ))
-    → IsAnswerOf told command before now a → (result ≡ a.status) ⊎ (result ≡ WriteFault) → (result ≢ WriteFault → out' ≡ appended out a.out)
-    → result ≢ Done → result ≢ WriteFault → out' ≡ out
-untouched told command before now a result out out' h was out_is no_done no_write =
-    let is = its_status a result was no_write in
-    out_is no_write ∙ ap (appended out) (h.only_done (λ e. no_done (is ∙ e))) ∙ appended-nil out
+pub untouched : (told : Option Files) (command : Command) (before now : ℕ) (a : Answer) (result : Status) (out out' err err' : Option (List ℕ))
+    → IsAnswerOf told command before now a → IsOut a result out out' err err' → result ≢ Done → result ≢ WriteFault → out' ≡ out
+untouched told command before now a result out out' err err' h written no_done no_write =
+    let is = its_status a result written.was no_write in
+    written.out_is no_write ∙ ap (appended out) (h.only_done (λ e. no_done (is ∙ e))) ∙ appended-nil out
 
 read_fault_or_not : (s : Status) → (s ≡ ReadFault) ⊎ (s ≢ ReadFault)
-read_fault_or_not Done = inr (λ e. cc)
-read_fault_or_not Refused = inr (λ e. cc)
-read_fault_or_not Usage = inr (λ e. cc)
-read_fault_or_not Missing = inr (λ e. cc)
+read_fault_or_not Done = inr (unlike Done ReadFault refl)
+read_fault_or_not Refused = inr (unlike Refused ReadFault refl)
+read_fault_or_not Usage = inr (unlike Usage ReadFault refl)
+read_fault_or_not Missing = inr (unlike Missing ReadFault refl)
 read_fault_or_not ReadFault = inl refl
-read_fault_or_not WriteFault = inr (λ e. cc)
-read_fault_or_not Memory = inr (λ e. cc)
-
-differ : ReadFault ≡ Done → ⊥
-differ e = cc
+read_fault_or_not WriteFault = inr (unlike WriteFault ReadFault refl)
+read_fault_or_not Memory = inr (unlike Memory ReadFault refl)
 
 abbrev nothing : List ℕ
 nothing = []
@@ -69,7 +85,7 @@ pub prefix : (words : List (List ℕ)) (files : Files) (command : Command) (told
     → AppendsPrefix out out' a.out → AppendsPrefix out out' (answer words files).out
 prefix words files command told before now a out out' h said tells p =
     elim (read_fault_or_not a.status) [
-      | inl e ↦ of_nothing out out' _ (subst (AppendsPrefix out out') (h.only_done (λ d. absurd (differ (sym e ∙ d)))) p)
+      | inl e ↦ of_nothing out out' _ (subst (AppendsPrefix out out') (h.only_done (λ d. absurd (unlike ReadFault Done refl (sym e ∙ d)))) p)
       | inr other ↦ subst (λ (b : Answer). AppendsPrefix out out' b.out) (same_answer words files command told before now a h said tells other) p
     ]
 
@@ -95,14 +111,6 @@ no_command words files result none is = is ∙ ap (λ c. (answer_to c files).sta
 pub decided_usage : (words : List (List ℕ)) (files : Files) (result : Status) → command_of words ≡ None → (result ≡ Usage) ⊎ (result ≡ WriteFault) → IsStatus (answer words files).status result
 decided_usage words files result none (inl is) = inl (no_command words files result none is)
 decided_usage words files result none (inr is) = inr (inl is)
-
--- the same, by some reads
-pub ends_by : (a b : Answer) (s result : Status) (out out' err err' : Option (List ℕ)) → a ≡ b → (result ≡ a.status) ⊎ (result ≡ WriteFault)
-    → (result ≢ WriteFault → out' ≡ appended out a.out) → (result ≢ WriteFault → err' ≡ appended err a.err) → s ≢ WriteFault → result ≡ s → Ends b s out out' err err'
-ends_by a b s result out out' err err' same was out_is err_is no_write is =
-    let not_write : result ≢ WriteFault = λ e. no_write (sym is ∙ e) in
-    let P : Answer → Type 0 = λ x. Ends x s out out' err err' in
-    subst P same (record { status_is = sym (its_status a result was not_write) ∙ is; out_is = out_is not_write; err_is = err_is not_write })
 
 -- the status of the answer, named
 pub as_status : (status s result : Status) → status ≡ s → IsStatus status result → IsStatus s result

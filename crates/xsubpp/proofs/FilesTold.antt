@@ -1,16 +1,20 @@
 -- Of a desk that tells: where a file is lacking, and where all files are there.
-use Rattle.std.proofs.Common.{◌≡◌, ◌⊎◌, inl, inr, ℕ, ◌≤◌, Bool, true, false, List, [], ◌∷◌, length, Option, None, Some, Result, Ok, Err, refl, ap, ◌∙◌, arith}
+use Rattle.std.proofs.Common.{◌≡◌, ◌⊎◌, inl, inr, ℕ, ◌≤◌, Bool, true, false, List, [], ◌∷◌, length, Option, None, Some, Result, Ok, Err, refl, sym, ap, ◌∙◌, arith}
+use Rattle.std.proofs.lemmas.Bool.{eqb-false}
 use Rattle.std.proofs.lemmas.Bool.Decides.{nat_tests}
-use Rattle.std.specs.Prelude.{nat_lt, if◌then◌else◌}
+use Rattle.std.proofs.lemmas.Option.{none-some}
+use Rattle.std.specs.Prelude.{◌==◌, nat_lt, if◌then◌else◌}
 use Rattle.xs_base.specs.declared.desk.DeskFault.TheVariants.{Longer}
 use Rattle.xs_base.specs.declared.fault.Fault.{Fault}
 use Rattle.xs_base.specs.declared.place.FileOf.{FileOf}
 use Rattle.xs_base.specs.Desks.{Files, told_read}
 use Rattle.xsubpp.specs.declared.answer.Answer.{Answer}
+use Rattle.xsubpp.specs.declared.status.Status.{Status}
 use Rattle.xsubpp.specs.declared.status.Status.TheVariants.{Done, Refused, Usage, Missing}
 use Rattle.xsubpp.specs.declared.top.TheConstants.{FILE_LIMIT}
 use Rattle.xsubpp.specs.Answers.{Ends, answer, answer_to, behind_read, behind_reads, bytes_of, done_or_refused, files_of, name_of, read_bytes, told_by}
 use Rattle.xsubpp.specs.Lacking.{IsWithin, LacksFile, OneLacks}
+use Rattle.xsubpp.specs.Numbers.{number_of}
 use Rattle.xsubpp.specs.Words.{Command, command_of}
 use Rattle.xsubpp.specs.Written.{AreHeld}
 
@@ -23,27 +27,13 @@ no_longer limit n h = grind (arith, nat_tests)
 pub read_short : (limit : ℕ) (bytes : List ℕ) → length bytes ≤ limit → told_read (Some bytes) limit ≡ Ok bytes
 read_short limit bytes h = rw (not_longer limit (length bytes) h) refl
 
-no_value : (bytes : List ℕ) → Some bytes ≡ None → ⊥
-no_value bytes e = cc
-
-refused_is_not_missing : Refused ≡ Missing → ⊥
-refused_is_not_missing e = cc
-
-refused_is_not_done : Refused ≡ Done → ⊥
-refused_is_not_done e = cc
-
-missing_is_not_done : Missing ≡ Done → ⊥
-missing_is_not_done e = cc
-
-done_is_not_missing : Done ≡ Missing → ⊥
-done_is_not_missing e = cc
-
-usage_is_not_missing : Usage ≡ Missing → ⊥
-usage_is_not_missing e = cc
+-- statuses with different numbers
+pub unlike : (a b : Status) → (number_of a == number_of b) ≡ false → a ≡ b → ⊥
+unlike a b differ e = eqb-false (number_of a) (number_of b) differ (ap number_of e)
 
 job_is_not_missing : (command : Command) (r : Result (List ℕ) Fault) → (done_or_refused command r).status ≡ Missing → ⊥
-job_is_not_missing command (Ok text) e = done_is_not_missing e
-job_is_not_missing command (Err fault) e = refused_is_not_missing e
+job_is_not_missing command (Ok text) e = unlike Done Missing refl e
+job_is_not_missing command (Err fault) e = unlike Refused Missing refl e
 
 -- ---- a file is lacking
 
@@ -54,7 +44,7 @@ missing_behind limit name file bytes next short is = ap (λ r. (behind_read name
 missing_here : (name : List ℕ) (file : FileOf) (held : Option (List ℕ)) (next : Answer) → (held ≡ None) ⊎ (IsWithin held × (next.status ≡ Missing))
     → (behind_read name file (told_read held FILE_LIMIT) next).status ≡ Missing
 missing_here name file None next h = refl
-missing_here name file (Some bytes) next (inl e) = absurd (no_value bytes e)
+missing_here name file (Some bytes) next (inl e) = absurd (none-some bytes (sym e))
 missing_here name file (Some bytes) next (inr (short, is)) = missing_behind FILE_LIMIT name file bytes next short is
 
 one_missing : (files : Files) (command : Command) (named : List FileOf) (next : Answer) → OneLacks files command named → (behind_reads command (told_by command files) named next).status ≡ Missing
@@ -65,7 +55,7 @@ one_missing files command (file ∷ more) next (inr (short, h)) =
 
 lacks_some : (limit : ℕ) (name : List ℕ) (file : FileOf) (bytes : List ℕ) (next : Answer) (b : Bool) → nat_lt limit (length bytes) ≡ b
     → (behind_read name file (if b then Err Longer else Ok bytes) next).status ≡ Missing → (length bytes ≤ limit) × (next.status ≡ Missing)
-lacks_some limit name file bytes next true e h = absurd (refused_is_not_missing h)
+lacks_some limit name file bytes next true e h = absurd (unlike Refused Missing refl h)
 lacks_some limit name file bytes next false e h = (no_longer limit (length bytes) e, h)
 
 lacks_here : (name : List ℕ) (file : FileOf) (held : Option (List ℕ)) (next : Answer) → (behind_read name file (told_read held FILE_LIMIT) next).status ≡ Missing
@@ -83,7 +73,7 @@ one_lacks files command (file ∷ more) next other h =
     ]
 
 lacks_file : (asked : Option Command) (files : Files) → (answer_to asked files).status ≡ Missing → LacksFile asked files
-lacks_file None files h = absurd (usage_is_not_missing h)
+lacks_file None files h = absurd (unlike Usage Missing refl h)
 lacks_file (Some command) files h = one_lacks files command (files_of command) _ (job_is_not_missing command _) h
 
 pub lacks_file_where : (words : List (List ℕ)) (files : Files) (out out' err err' : Option (List ℕ)) → Ends (answer words files) Missing out out' err err' → LacksFile (command_of words) files
@@ -103,12 +93,12 @@ missing words files h = missing_file (command_of words) files h
 held_some : (limit : ℕ) (name : List ℕ) (file : FileOf) (bytes : List ℕ) (next : Answer) (b : Bool) → nat_lt limit (length bytes) ≡ b
     → (behind_read name file (if b then Err Longer else Ok bytes) next).status ≡ Done
     → (Some bytes ≡ Some (bytes_of (if b then Err Longer else Ok bytes))) × (length (bytes_of (if b then Err Longer else Ok bytes)) ≤ limit) × (next.status ≡ Done)
-held_some limit name file bytes next true e h = absurd (refused_is_not_done h)
+held_some limit name file bytes next true e h = absurd (unlike Refused Done refl h)
 held_some limit name file bytes next false e h = (refl, no_longer limit (length bytes) e, h)
 
 held_here : (limit : ℕ) (name : List ℕ) (file : FileOf) (held : Option (List ℕ)) (next : Answer) → (behind_read name file (told_read held limit) next).status ≡ Done
     → (held ≡ Some (bytes_of (told_read held limit))) × (length (bytes_of (told_read held limit)) ≤ limit) × (next.status ≡ Done)
-held_here limit name file None next h = absurd (missing_is_not_done h)
+held_here limit name file None next h = absurd (unlike Missing Done refl h)
 held_here limit name file (Some bytes) next h = held_some limit name file bytes next (nat_lt limit (length bytes)) refl h
 
 pub are_held : (files : Files) (command : Command) (named : List FileOf) (next : Answer) → (behind_reads command (told_by command files) named next).status ≡ Done

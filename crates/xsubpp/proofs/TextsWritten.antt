@@ -16,24 +16,18 @@ use Rattle.xs_script.specs.Expr.{Said}
 use Rattle.xs_script.specs.Script.{script_of}
 use Rattle.xs_stub.specs.Stub.{glue_text}
 use Rattle.xsubpp.specs.declared.answer.Answer.{Answer}
-use Rattle.xsubpp.specs.declared.status.Status.TheVariants.{Done, Refused, Usage}
+use Rattle.xsubpp.specs.declared.status.Status.TheVariants.{Done, Memory, Missing, ReadFault, Refused, Usage}
 use Rattle.xsubpp.specs.declared.top.TheConstants.{FILE_LIMIT}
 use Rattle.xsubpp.specs.Answers.{Ends, EndsByReads, Given, accepted, accepted_of, answer, answer_by, answer_to, behind_read, bytes_of, done_or_refused, files_of, read_bytes, told_by, unread}
 use Rattle.xsubpp.specs.Words.{Command, Compile, Call, Check, command_of}
 use Rattle.xsubpp.specs.Written.{AreHeld, HasCalls, HasModule, IsAcceptance, IsGlueOf, IsGranted, IsTaken, IsTranscriptOf, IsWritten, Wrote, WroteByReads}
-use Rattle.xsubpp.proofs.FilesTold.{are_held, read_short}
-
-refused_is_not_done : Refused ≡ Done → ⊥
-refused_is_not_done e = cc
-
-usage_is_not_done : Usage ≡ Done → ⊥
-usage_is_not_done e = cc
+use Rattle.xsubpp.proofs.FilesTold.{are_held, read_short, unlike}
 
 unread_is_not_done : (name : List ℕ) (file : FileOf) (fault : DeskFault) → (unread name file fault).status ≡ Done → ⊥
-unread_is_not_done name file read.Missing e = cc
-unread_is_not_done name file read.Longer e = refused_is_not_done e
-unread_is_not_done name file read.Failed e = cc
-unread_is_not_done name file read.Memory e = cc
+unread_is_not_done name file read.Missing e = unlike Missing Done refl e
+unread_is_not_done name file read.Longer e = unlike Refused Done refl e
+unread_is_not_done name file read.Failed e = unlike ReadFault Done refl e
+unread_is_not_done name file read.Memory e = unlike Memory Done refl e
 
 -- ---- compile
 
@@ -42,7 +36,7 @@ glue_answer name r = done_or_refused (Compile name) (r >>= λ m. Ok (glue_text m
 
 glue_written : EachTextRunsAsDeclared → EachTextLeavesNothing → (name xs : List ℕ) (r : Result Module Fault) → module_in xs ≡ r → (glue_answer name r).status ≡ Done → IsGlueOf xs (glue_answer name r).out
 glue_written runs exact name xs (Ok m) is h = record { m = m; is_module = is; text_is = refl; runs = λ cs. runs xs m cs is; exact = λ cs. exact xs m cs is }
-glue_written runs exact name xs (Err fault) is h = absurd (refused_is_not_done h)
+glue_written runs exact name xs (Err fault) is h = absurd (unlike Refused Done refl h)
 
 abbrev compile_answer : List ℕ → Result (List ℕ) DeskFault → Answer
 compile_answer name xs = behind_read name Xs xs (done_or_refused (Compile name) (compile_of (bytes_of xs)))
@@ -69,18 +63,18 @@ calls_written runs exact command xs script m commands is said (Ok cs) are h =
       runs = runs xs m cs is;
       exact = exact xs m cs is;
     }
-calls_written runs exact command xs script m commands is said (Err fault) are h = absurd (refused_is_not_done h)
+calls_written runs exact command xs script m commands is said (Err fault) are h = absurd (unlike Refused Done refl h)
 
 script_written : EachTextRunsAsDeclared → EachTextLeavesNothing → (command : Command) (xs script : List ℕ) (m : Module) → module_in xs ≡ Ok m
     → (commands : Result (List Said) Fault) → script_of script ≡ commands → (done_or_refused command (commands >>= λ commands. calls_said commands >>= λ cs. Ok (declared_transcript m cs))).status ≡ Done
     → IsTranscriptOf xs script (done_or_refused command (commands >>= λ commands. calls_said commands >>= λ cs. Ok (declared_transcript m cs))).out
 script_written runs exact command xs script m is (Ok commands) said h = calls_written runs exact command xs script m commands is said (calls_said commands) refl h
-script_written runs exact command xs script m is (Err fault) said h = absurd (refused_is_not_done h)
+script_written runs exact command xs script m is (Err fault) said h = absurd (unlike Refused Done refl h)
 
 transcript_written : EachTextRunsAsDeclared → EachTextLeavesNothing → (command : Command) (xs script : List ℕ) (r : Result Module Fault) → module_in xs ≡ r → (transcript_of command r script).status ≡ Done
     → IsTranscriptOf xs script (transcript_of command r script).out
 transcript_written runs exact command xs script (Ok m) is h = script_written runs exact command xs script m is (script_of script) refl h
-transcript_written runs exact command xs script (Err fault) is h = absurd (refused_is_not_done h)
+transcript_written runs exact command xs script (Err fault) is h = absurd (unlike Refused Done refl h)
 
 abbrev call_answer : List ℕ → List ℕ → Result (List ℕ) DeskFault → Result (List ℕ) DeskFault → Answer
 call_answer name script xs commands = behind_read name Xs xs (behind_read script Script commands (done_or_refused (Call name script) (call_of (bytes_of xs) (bytes_of commands))))
@@ -102,7 +96,7 @@ taken_answer name r = done_or_refused (Check name) (only_taken r >>= λ taken. O
 
 taken_written : (name xs : List ℕ) (r : Result Module Fault) → module_in xs ≡ r → (taken_answer name r).status ≡ Done → IsAcceptance xs (taken_answer name r).out
 taken_written name xs (Ok m) is h = record { taken = record { m = m; is_module = is }; text_is = refl }
-taken_written name xs (Err fault) is h = absurd (refused_is_not_done h)
+taken_written name xs (Err fault) is h = absurd (unlike Refused Done refl h)
 
 abbrev check_answer : List ℕ → Result (List ℕ) DeskFault → Answer
 check_answer name xs = behind_read name Xs xs (done_or_refused (Check name) (accepted_of (bytes_of xs)))
@@ -121,7 +115,7 @@ written runs exact (Check name) given h = checked name (given Xs) h
 
 wrote_for : EachTextRunsAsDeclared → EachTextLeavesNothing → (words : List (List ℕ)) (files : Files) (asked : Option Command) (out out' err err' : Option (List ℕ)) → command_of words ≡ asked
     → Ends (answer_to asked files) Done out out' err err' → Wrote words files out out'
-wrote_for runs exact words files None out out' err err' is e = absurd (usage_is_not_done e.status_is)
+wrote_for runs exact words files None out out' err err' is e = absurd (unlike Usage Done refl e.status_is)
 wrote_for runs exact words files (Some command) out out' err err' is e =
     record {
       command = command;

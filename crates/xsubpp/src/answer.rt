@@ -80,8 +80,8 @@ pub fn done_or_refused(
     }
 }
 
-// The word that named a file.
-fn name_of<'a>(command: CommandWords<'a>, file: FileOf) -> &'a Bytes
+/// The word that named a file.
+pub fn name_of<'a>(command: CommandWords<'a>, file: FileOf) -> &'a Bytes
     ensures { result.now ≡ name_of (said command.entry) file }
 {
     match command {

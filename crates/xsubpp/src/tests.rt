@@ -86,6 +86,18 @@ fn tells(alloc: Global, xs: &[u8], script: &[u8], told: &str) -> Result<bool, Fa
     writes(alloc, &CALL, &mut desk, told)
 }
 
+// Whether a run ends so, with this line alone.
+fn ends(
+    alloc: Global,
+    words: &[&str],
+    desk: &mut MemDesk,
+    how: Status,
+    line: &str,
+) -> Result<bool, Fail> {
+    let (status, out, err) = run(alloc, words, desk, 4096)?;
+    Ok(status == how && out.bytes().is_empty() && err.bytes() == line.as_bytes())
+}
+
 // A refusal: its status and its line.
 fn refuses(
     alloc: Global,
@@ -96,8 +108,7 @@ fn refuses(
     line: &str,
 ) -> Result<bool, Fail> {
     let mut desk = desk(alloc, xs, script)?;
-    let (status, out, err) = run(alloc, words, &mut desk, 4096)?;
-    Ok(status == how && out.bytes().is_empty() && err.bytes() == line.as_bytes())
+    ends(alloc, words, &mut desk, how, line)
 }
 
 // What a boot and one call tell.
@@ -201,71 +212,29 @@ fn usages(rt: HostRuntime) -> Result<(), Fail> {
     Ok(())
 }
 
+// Whether a file that words name is told as missing.
+fn misses(alloc: Global, words: &[&str], line: &str) -> Result<bool, Fail> {
+    refuses(alloc, words, ADD, b"", Status::Missing, line)
+}
+
+// Whether `call` refuses an XS file and a script so.
+fn call_refuses(alloc: Global, xs: &[u8], script: &[u8], line: &str) -> Result<bool, Fail> {
+    refuses(alloc, &CALL, xs, script, Status::Refused, line)
+}
+
 #[test]
 fn refusals(rt: HostRuntime) -> Result<(), Fail> {
     let alloc = rt.alloc();
-    assert!(rt;
-        refuses(
-            alloc,
-            &["call", "b.xs", "a.txt"],
-            ADD,
-            b"",
-            Status::Missing,
-            "b.xs: missing\n",
-        )?
-    );
-    assert!(rt;
-        refuses(
-            alloc,
-            &["call", "a.xs", "b.txt"],
-            ADD,
-            b"",
-            Status::Missing,
-            "b.txt: missing\n",
-        )?
-    );
+    assert!(rt; misses(alloc, &["call", "b.xs", "a.txt"], "b.xs: missing\n")?);
+    assert!(rt; misses(alloc, &["call", "a.xs", "b.txt"], "b.txt: missing\n")?);
     // no name is the name of a file too
-    assert!(rt;
-        refuses(
-            alloc,
-            &["check", ""],
-            ADD,
-            b"",
-            Status::Missing,
-            ": missing\n"
-        )?
-    );
-    assert!(rt;
-        refuses(
-            alloc,
-            &COMPILE,
-            b"int\n",
-            b"",
-            Status::Refused,
-            "a.xs:1: 102 no MODULE line\n",
-        )?
-    );
+    assert!(rt; misses(alloc, &["check", ""], ": missing\n")?);
+    let no_module = "a.xs:1: 102 no MODULE line\n";
+    assert!(rt; refuses(alloc, &COMPILE, b"int\n", b"", Status::Refused, no_module)?);
     // the XS file decides before the script
-    assert!(rt;
-        refuses(
-            alloc,
-            &CALL,
-            b"int\n",
-            b"cal\n",
-            Status::Refused,
-            "a.xs:1: 102 no MODULE line\n",
-        )?
-    );
-    assert!(rt;
-        refuses(
-            alloc,
-            &CALL,
-            ADD,
-            b"\ncal\n",
-            Status::Refused,
-            "a.txt:2: 951 bad script line\n",
-        )?
-    );
+    assert!(rt; call_refuses(alloc, b"int\n", b"cal\n", no_module)?);
+    let bad_line = "a.txt:2: 951 bad script line\n";
+    assert!(rt; call_refuses(alloc, ADD, b"\ncal\n", bad_line)?);
     Ok(())
 }
 
@@ -274,10 +243,15 @@ fn edges(rt: HostRuntime) -> Result<(), Fail> {
     let alloc = rt.alloc();
     let mut failing = desk(alloc, ADD, b"")?;
     failing.fail_at(2).map_err(|_| "memory")?;
-    let (status, out, err) = run(alloc, &CALL, &mut failing, 4096)?;
-    assert!(rt; status == Status::ReadFault);
-    assert!(rt; out.bytes().is_empty());
-    assert!(rt; err.bytes() == b"a.txt: read fault\n".as_slice());
+    assert!(rt;
+        ends(
+            alloc,
+            &CALL,
+            &mut failing,
+            Status::ReadFault,
+            "a.txt: read fault\n"
+        )?
+    );
 
     let mut desk = desk(alloc, ADD, b"")?;
     let (status, out, err) = run(alloc, &CALL, &mut desk, 10)?;
@@ -303,7 +277,6 @@ fn second_write_fails(rt: HostRuntime) -> Result<(), Fail> {
     Ok(())
 }
 
-// `check` of a file that stands alone, then of none, then where the read fails.
 // Whether `check` refuses an XS file so.
 fn check_refuses(alloc: Global, xs: &str, line: &str) -> Result<bool, Fail> {
     refuses(alloc, &CHECK, xs.as_bytes(), b"", Status::Refused, line)
@@ -352,6 +325,7 @@ fn first_faults(rt: HostRuntime) -> Result<(), Fail> {
     Ok(())
 }
 
+// `check` of a file that stands alone, then of none, then where the read fails.
 #[test]
 fn checks(rt: HostRuntime) -> Result<(), Fail> {
     let alloc = rt.alloc();
@@ -359,17 +333,28 @@ fn checks(rt: HostRuntime) -> Result<(), Fail> {
     desk.add(text(alloc, b"a.xs")?, text(alloc, ADD)?)
         .map_err(|_| "memory")?;
     assert!(rt; writes(alloc, &CHECK, &mut desk, "accepted\n")?);
-    let (status, out, err) = run(alloc, &["check", "none.xs"], &mut desk, 4096)?;
-    assert!(rt; status == Status::Missing);
-    assert!(rt; out.bytes().is_empty());
-    assert!(rt; err.bytes() == b"none.xs: missing\n".as_slice());
+    let words = ["check", "none.xs"];
+    assert!(rt;
+        ends(
+            alloc,
+            &words,
+            &mut desk,
+            Status::Missing,
+            "none.xs: missing\n"
+        )?
+    );
 
     let mut failing = MemDesk::new(alloc);
     failing.fail_at(1).map_err(|_| "memory")?;
-    let (status, out, err) = run(alloc, &["check", "none.xs"], &mut failing, 4096)?;
-    assert!(rt; status == Status::ReadFault);
-    assert!(rt; out.bytes().is_empty());
-    assert!(rt; err.bytes() == b"none.xs: read fault\n".as_slice());
+    assert!(rt;
+        ends(
+            alloc,
+            &words,
+            &mut failing,
+            Status::ReadFault,
+            "none.xs: read fault\n"
+        )?
+    );
     Ok(())
 }
 
@@ -380,15 +365,6 @@ fn too_long(rt: HostRuntime) -> Result<(), Fail> {
     for _ in 0..1025 {
         long.append(&[b' '; 1024]).map_err(|_| "memory")?;
     }
-    assert!(rt;
-        refuses(
-            alloc,
-            &CALL,
-            long.as_slice(),
-            b"",
-            Status::Refused,
-            "a.xs:0: 101 file too long\n",
-        )?
-    );
+    assert!(rt; call_refuses(alloc, long.as_slice(), b"", "a.xs:0: 101 file too long\n")?);
     Ok(())
 }

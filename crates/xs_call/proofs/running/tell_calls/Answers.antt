@@ -1,7 +1,8 @@
 use Rattle.std.proofs.Common.{rules, ◌≡◌, ◌∷◌, ◌++◌, ◌<◌, ◌+◌, length, drop, sym, ap, ◌∙◌, subst, append_assoc}
 use Rattle.std.proofs.lemmas.List.{drop_more}
-use Rattle.xs_call.specs.Running.{calls_told, told_call}
+use Rattle.xs_call.specs.Running.{told_call}
 use Rattle.xs_call.specs.Runs.{IsTold}
+use Rattle.xs_call.specs.Transcript.{calls_told}
 use Rattle.xs_machine.specs.Views.{code_in, mach_of}
 use Rattle.xs_call.proofs.Arguments.{call_goes_on}
 use Rattle.xs_call.proofs.running.tell_calls.Goals as goal
@@ -21,10 +22,10 @@ loop-call-preserved c =
     let step = call_goes_on code m new c.call-item.result rest t (subst (λ k. IsTold (told_call k m c.call-item.result) t new) c.loop-call.invariant.code told) c.if-not-told.false in
     record {
       told =
-          ap (λ x. x ++ calls_told code new rest) (c.in_ok-append.ensures.ok ∙ ap (λ y. c.loop-call.text ++ y) c.as_slice.ensures)
-          ∙ append_assoc c.loop-call.text t.text (calls_told code new rest)
+          ap (λ x. x ++ calls_told (told_call code) new rest) (c.in_ok-append.ensures.ok ∙ ap (λ y. c.loop-call.text ++ y) c.as_slice.ensures)
+          ∙ append_assoc c.loop-call.text t.text (calls_told (told_call code) new rest)
           ∙ ap (λ x. c.loop-call.text ++ x) (sym step)
-          ∙ ap (λ l. c.loop-call.text ++ calls_told code m l) (sym more)
+          ∙ ap (λ l. c.loop-call.text ++ calls_told (told_call code) m l) (sym more)
           ∙ c.loop-call.invariant.told;
       idle = c.in_ok-told.ensures.idle;
       code = c.in_ok-told.ensures.code ∙ c.loop-call.invariant.code;

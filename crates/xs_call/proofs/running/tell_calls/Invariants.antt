@@ -1,5 +1,6 @@
 use Rattle.std.proofs.Common.{◌≡◌, ◌++◌, [], drop}
-use Rattle.xs_call.specs.Running.{calls_told}
+use Rattle.xs_call.specs.Running.{told_call}
+use Rattle.xs_call.specs.Transcript.{calls_told}
 use Rattle.xs_machine.specs.Views.{code_in, mach_of, pending_of}
 use Rattle.xs_call.proofs.running.tell_calls.Given as goal
 
@@ -7,7 +8,7 @@ use Rattle.xs_call.proofs.running.tell_calls.Given as goal
 abbrev pub invariant-loop-call : goal.invariant-loop-call
 invariant-loop-call l =
     record {
-      told : l.text ++ calls_told (code_in l.fn.machine) (mach_of l.machine) (drop l.call-index l.calls) ≡ l.fn.text ++ calls_told (code_in l.fn.machine) (mach_of l.fn.machine) l.calls;
+      told : l.text ++ calls_told (told_call (code_in l.fn.machine)) (mach_of l.machine) (drop l.call-index l.calls) ≡ l.fn.text ++ calls_told (told_call (code_in l.fn.machine)) (mach_of l.fn.machine) l.calls;
       idle : pending_of l.machine ≡ [];
       code : code_in l.machine ≡ code_in l.fn.machine;
     }

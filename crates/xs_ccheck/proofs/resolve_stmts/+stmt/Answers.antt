@@ -9,7 +9,7 @@ use Rattle.xs_ccheck.specs.ResolvingStmts.{GivesStmt, GivesStmts, names_in}
 use Rattle.xs_ccheck.specs.Tree.{Block, If, Forget, NoTrees, MoreTrees}
 use Rattle.xs_ccheck.specs.Typing.{done, behind_block, expr, stmt, stmts, is_condition}
 use Rattle.xs_ccheck.proofs.Kept.{keeps_on}
-use Rattle.xs_ccheck.proofs.Stmts.{block_done, effect_done, if_done, more_done, stmt_from, stmts_from}
+use Rattle.xs_ccheck.proofs.Stmts.{block_done, effect_done, if_done, more_done, done_from}
 use Rattle.xs_ccheck.proofs.resolve_stmts.+stmt.Goals as goal
 
 pub stmt-returns-in_ok-inner-in-Block : goal.stmt-returns-in_ok-inner-in-Block
@@ -23,14 +23,14 @@ stmt-returns-in_ok-inner-in-Block t c =
     let behind = c.forget_behind.new.self in
     let found = c.in_ok-inner-in-Block.ensures in
     let here : plain_stmt c.args.s.now ≡ syntax.Block line (stmts_of (map plain_stmt body.items)) = ap plain_stmt c.in-Block.is ∙ plain_stmt-Block line body in
-    let read : stmts names scope (stmts_of (map plain_stmt body.items)) ≡ Ok (record { trees = trees_in one c.in_ok-inner-in-Block.inner; scope = within }) =
+    let read : stmts names scope (stmts_of (map plain_stmt body.items)) ≡ Ok (record { tree = trees_in one c.in_ok-inner-in-Block.inner; scope = within }) =
     ap (λ xs. stmts names scope (stmts_of (map plain_stmt xs))) (sym c.as_slice.ensures.value) ∙ found.means in
     let left : behind ≡ behind_block scope within =
     c.forget_behind.ensures ∙ ap (λ n. record { variables = take n within.variables; slots = within.slots; entered = within.entered; in_boot = within.in_boot }) (ap length c.locals-known.ensures) in
     let all : stmt names scope (plain_stmt c.args.s.now) ≡ done behind (Block (trees_in one c.in_ok-inner-in-Block.inner)) =
     ap (stmt names scope) here ∙ block_done names scope within line (stmts_of (map plain_stmt body.items)) (trees_in one c.in_ok-inner-in-Block.inner) read
     ∙ ap (λ s. done s (Block (trees_in one c.in_ok-inner-in-Block.inner))) (sym left) in
-    stmt_from c.done.result c.args.nodes.now one c.done.new.nodes behind _ found.keeps
+    done_from tree_in c.done.result c.args.nodes.now one c.done.new.nodes behind _ found.keeps
     (subst (λ r. GivesStmt c.done.result one c.done.new.nodes behind r) (sym all) (c.done.ensures behind))
 
 pub stmt-returns-in_ok-x-in-Effect : goal.stmt-returns-in_ok-x-in-Effect
@@ -44,7 +44,7 @@ stmt-returns-in_ok-x-in-Effect t c =
     let here : plain_stmt c.args.s.now ≡ syntax.Effect line (plain e) = ap plain_stmt c.in-Effect.is ∙ plain_stmt-Effect line e in
     let all : stmt names scope (plain_stmt c.args.s.now) ≡ done scope (Forget (tree_in one c.in_ok-x-in-Effect.x.node)) =
     ap (stmt names scope) here ∙ effect_done names scope line (plain e) _ (ap (λ vs. expr vs (plain e)) (sym c.locals.ensures) ∙ found.means) in
-    stmt_from c.done-in-Effect.result c.args.nodes.now one c.done-in-Effect.new.nodes scope _ found.keeps
+    done_from tree_in c.done-in-Effect.result c.args.nodes.now one c.done-in-Effect.new.nodes scope _ found.keeps
     (subst (λ r. GivesStmt c.done-in-Effect.result one c.done-in-Effect.new.nodes scope r) (sym all) (c.done-in-Effect.ensures scope))
 
 pub stmt-returns-in_ok-branch-in-If : goal.stmt-returns-in_ok-branch-in-If
@@ -66,7 +66,7 @@ stmt-returns-in_ok-branch-in-If t c =
     ∙ if_done names scope behind line (plain test) (plain_stmt then_do.value) _ (tree_in two c.in_ok-branch-in-If.branch) (ap (λ vs. expr vs (plain test)) (sym c.locals-in-If.ensures) ∙ x.means) holds (ap (λ s. stmt names scope (plain_stmt s)) (sym c.deref.ensures) ∙ branch.means) in
     let moved : done behind (If (tree_in two c.in_ok-x-in-If.x.node) (tree_in two c.in_ok-branch-in-If.branch) (Block NoTrees)) ≡ stmt names scope (plain_stmt c.args.s.now) =
     ap (λ t. done behind (If t (tree_in two c.in_ok-branch-in-If.branch) (Block NoTrees))) (branch.keeps.tree c.in_ok-x-in-If.x.node x.below) ∙ sym all in
-    stmt_from c.conditional.result c.args.nodes.now two c.conditional.new.nodes behind _ (keeps_on c.args.nodes.now one two x.keeps branch.keeps)
+    done_from tree_in c.conditional.result c.args.nodes.now two c.conditional.new.nodes behind _ (keeps_on c.args.nodes.now one two x.keeps branch.keeps)
     (subst (λ r. GivesStmt c.conditional.result two c.conditional.new.nodes behind r) moved (c.conditional.ensures behind))
 
 pub stmts-returns : goal.stmts-returns
@@ -79,10 +79,10 @@ stmts-returns t c =
     let first = c.in_ok-x.ensures in
     let more = c.in_ok-xs.ensures in
     let shape : c.args.body.now ≡ c.in-Some.first.now ∷ c.in-Some.rest.now = first_of (search rules, grind (arith, common_steps)) in
-    let all : stmts names scope (stmts_of (map plain_stmt c.args.body.now)) ≡ Ok (record { trees = MoreTrees (tree_in one c.in_ok-x.x) (trees_in two c.in_ok-xs.xs); scope = behind }) =
+    let all : stmts names scope (stmts_of (map plain_stmt c.args.body.now)) ≡ Ok (record { tree = MoreTrees (tree_in one c.in_ok-x.x) (trees_in two c.in_ok-xs.xs); scope = behind }) =
     ap (λ xs. stmts names scope (stmts_of (map plain_stmt xs))) shape
     ∙ more_done names scope c.stmt.new.scope behind (plain_stmt c.in-Some.first.now) (stmts_of (map plain_stmt c.in-Some.rest.now)) (tree_in one c.in_ok-x.x) (trees_in two c.in_ok-xs.xs) first.means more.means in
-    let moved : Ok (record { trees = MoreTrees (tree_in two c.in_ok-x.x) (trees_in two c.in_ok-xs.xs); scope = behind }) ≡ stmts names scope (stmts_of (map plain_stmt c.args.body.now)) =
-    ap (λ t. Ok (record { trees = MoreTrees t (trees_in two c.in_ok-xs.xs); scope = behind })) (more.keeps.tree c.in_ok-x.x first.below) ∙ sym all in
-    stmts_from c.more_stmts.result c.args.nodes.now two c.more_stmts.new.nodes behind _ (keeps_on c.args.nodes.now one two first.keeps more.keeps)
+    let moved : Ok (record { tree = MoreTrees (tree_in two c.in_ok-x.x) (trees_in two c.in_ok-xs.xs); scope = behind }) ≡ stmts names scope (stmts_of (map plain_stmt c.args.body.now)) =
+    ap (λ t. Ok (record { tree = MoreTrees t (trees_in two c.in_ok-xs.xs); scope = behind })) (more.keeps.tree c.in_ok-x.x first.below) ∙ sym all in
+    done_from trees_in c.more_stmts.result c.args.nodes.now two c.more_stmts.new.nodes behind _ (keeps_on c.args.nodes.now one two first.keeps more.keeps)
     (subst (λ r. GivesStmts c.more_stmts.result two c.more_stmts.new.nodes behind r) moved (c.more_stmts.ensures behind))

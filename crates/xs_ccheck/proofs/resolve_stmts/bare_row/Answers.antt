@@ -7,7 +7,7 @@ use Rattle.xs_ccheck.specs.Tree.{ApiRow, Forget, NoTrees}
 use Rattle.xs_ccheck.specs.Typing.{done}
 use Rattle.xs_ccheck.proofs.Growing.{row_same}
 use Rattle.xs_ccheck.proofs.Kept.{keeps_on}
-use Rattle.xs_ccheck.proofs.Stmts.{stmt_from}
+use Rattle.xs_ccheck.proofs.Stmts.{done_from}
 use Rattle.xs_ccheck.proofs.resolve_stmts.bare_row.Goals as goal
 
 pub returns : goal.returns
@@ -17,5 +17,5 @@ returns c = λ scope.
     let two = c.add-2.new.self in
     let same : tree_in two c.in_ok-row.row ≡ ApiRow (row_of [] c.args.row) NoTrees =
     c.in_ok-row.ensures.tree ∙ ap (λ r. ApiRow r (trees_in one c.in_ok-none.none)) (row_same [] one.texts.items c.args.row c.requires) ∙ ap (ApiRow (row_of [] c.args.row)) c.in_ok-none.ensures.trees in
-    stmt_from c.done.result old two c.done.new.nodes scope _ (keeps_on old one two c.in_ok-none.ensures.keeps c.in_ok-row.ensures.keeps)
+    done_from tree_in c.done.result old two c.done.new.nodes scope _ (keeps_on old one two c.in_ok-none.ensures.keeps c.in_ok-row.ensures.keeps)
     (subst (λ t. GivesStmt c.done.result two c.done.new.nodes scope (done scope (Forget t))) same (c.done.ensures scope))

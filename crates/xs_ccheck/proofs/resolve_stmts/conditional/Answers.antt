@@ -4,7 +4,7 @@ use Rattle.xs_ccheck.specs.ResolvingStmts.{GivesStmt}
 use Rattle.xs_ccheck.specs.Tree.{Block, If, NoTrees}
 use Rattle.xs_ccheck.specs.Typing.{done}
 use Rattle.xs_ccheck.proofs.Kept.{keeps_on}
-use Rattle.xs_ccheck.proofs.Stmts.{stmt_from}
+use Rattle.xs_ccheck.proofs.Stmts.{done_from}
 use Rattle.xs_ccheck.proofs.resolve_stmts.conditional.Goals as goal
 
 pub returns : goal.returns
@@ -18,5 +18,5 @@ returns c = λ scope.
     ap (λ t. If t (tree_in two c.args.branch) (tree_in two c.in_ok-nothing.nothing)) (keeps.tree c.args.test c.requires.test_in)
     ∙ ap (λ t. If (tree_in old c.args.test) t (tree_in two c.in_ok-nothing.nothing)) (keeps.tree c.args.branch c.requires.branch_in)
     ∙ ap (If (tree_in old c.args.test) (tree_in old c.args.branch)) nothing in
-    stmt_from c.done.result old two c.done.new.nodes scope _ keeps
+    done_from tree_in c.done.result old two c.done.new.nodes scope _ keeps
     (subst (λ t. GivesStmt c.done.result two c.done.new.nodes scope (done scope t)) same (c.done.ensures scope))

@@ -1,5 +1,5 @@
 use Rattle.std.proofs.Common.{◌≡◌, ◌≤◌, length, reverse, take}
-use Rattle.xs_machine.specs.World.{registered}
+use Rattle.xs_api.specs.World.{registered}
 use Rattle.xs_machine.proofs.machine.registered.Given as goal
 
 abbrev pub invariant-loop-at : goal.invariant-loop-at

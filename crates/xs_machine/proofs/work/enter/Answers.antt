@@ -1,7 +1,7 @@
 use Rattle.std.proofs.Common.{◌≡◌, Option, sym, subst}
 use Rattle.std.specs.Prelude.{OnOk}
 use Rattle.xs_machine.specs.Machine.{enter}
-use Rattle.xs_machine.specs.Rows.{counted_rows}
+use Rattle.xs_api.specs.Rows.{counted_rows}
 use Rattle.xs_ccheck.specs.Tree.{Function}
 use Rattle.xs_machine.specs.Views.{mach_of, pending_of, state_of}
 use Rattle.xs_machine.proofs.work.enter.Goals as goal

@@ -1,6 +1,6 @@
 use Rattle.std.proofs.Common.{◌≡◌}
 use Rattle.std.specs.Prelude.{replicate}
-use Rattle.xs_machine.specs.declared.api.Operand.TheVariants.{Unset}
+use Rattle.xs_api.specs.declared.api.Operand.TheVariants.{Unset}
 use Rattle.xs_machine.proofs.work.unset_vars.Given as goal
 
 abbrev pub invariant-loop : goal.invariant-loop

@@ -1,5 +1,6 @@
 use Rattle.std.proofs.Common.{◌≡◌, ◌≤◌, length}
-use Rattle.xs_script.specs.Lex.{with_front, tokens_from}
+use Rattle.xs_script.specs.Fronts.{with_front}
+use Rattle.xs_script.specs.Lex.{tokens_from}
 use Rattle.xs_script.proofs.lexing.tokens.Given as goal
 
 abbrev pub invariant-loop-rest : goal.invariant-loop-rest

@@ -1,37 +1,34 @@
-use Rattle.std.proofs.Common.{inl, inr, ap, subst, sym, refl, ◌∙◌}
-use Rattle.xs_base.specs.Sinks.{appended, AppendsPrefix}
+use Rattle.std.proofs.Common.{inl, inr, subst, sym, refl}
+use Rattle.xs_base.specs.Sinks.{AppendsPrefix}
 use Rattle.xs_call.proofs.Join.{text_leaves_nothing, text_runs}
 use Rattle.xsubpp.specs.declared.status.Status.TheVariants.{Done, Refused, Missing, ReadFault}
 use Rattle.xsubpp.specs.Answers.{usage}
 use Rattle.xsubpp.specs.Reads.{IsSaidByReads}
 use Rattle.xsubpp.specs.Words.{said}
-use Rattle.xsubpp.proofs.Ending.{as_status, complete, decided, decided_usage, ends, ends_by, no_command, prefix, untouched}
+use Rattle.xsubpp.proofs.Ending.{as_status, complete, decided, decided_usage, ends, ends_by_reads, is_out, no_command, prefix, untouched}
 use Rattle.xsubpp.proofs.FilesTold.{lacks_file_where, missing}
 use Rattle.xsubpp.proofs.TextsWritten.{granted, wrote, wrote_by_reads}
 use Rattle.xsubpp.proofs.top.xsubpp.Goals as goal
 
 pub returns-in-Ok-clause-done : goal.returns-in-Ok-clause-done
 returns-in-Ok-clause-done g c is files tells =
-    ends _ files _ _ _ _ c.in-Ok.a Done _ _ _ _ _ c.in-Ok.ensures.told c.in-Some.ensures tells c.finish-in-Ok.ensures.status
-    (λ e. c.finish-in-Ok.ensures.out e ∙ ap (appended _) c.as_slice.ensures)
-    (λ e. c.finish-in-Ok.ensures.err e ∙ ap (appended _) c.as_slice-in-Ok.ensures) (λ e. cc) (λ e. cc) is
+    ends _ files _ _ _ _ c.in-Ok.a Done _ _ _ _ _ c.in-Ok.ensures.told c.in-Some.ensures tells
+    (is_out c.in-Ok.a _ _ _ _ _ _ _ c.finish-in-Ok.ensures.status c.finish-in-Ok.ensures.out c.finish-in-Ok.ensures.err c.as_slice.ensures c.as_slice-in-Ok.ensures) (λ e. cc) (λ e. cc) is
 
 pub returns-in-Ok-clause-refused : goal.returns-in-Ok-clause-refused
 returns-in-Ok-clause-refused g c is files tells =
-    ends _ files _ _ _ _ c.in-Ok.a Refused _ _ _ _ _ c.in-Ok.ensures.told c.in-Some.ensures tells c.finish-in-Ok.ensures.status
-    (λ e. c.finish-in-Ok.ensures.out e ∙ ap (appended _) c.as_slice.ensures)
-    (λ e. c.finish-in-Ok.ensures.err e ∙ ap (appended _) c.as_slice-in-Ok.ensures) (λ e. cc) (λ e. cc) is
+    ends _ files _ _ _ _ c.in-Ok.a Refused _ _ _ _ _ c.in-Ok.ensures.told c.in-Some.ensures tells
+    (is_out c.in-Ok.a _ _ _ _ _ _ _ c.finish-in-Ok.ensures.status c.finish-in-Ok.ensures.out c.finish-in-Ok.ensures.err c.as_slice.ensures c.as_slice-in-Ok.ensures) (λ e. cc) (λ e. cc) is
 
 pub returns-in-Ok-clause-missing : goal.returns-in-Ok-clause-missing
 returns-in-Ok-clause-missing g c is files tells =
-    ends _ files _ _ _ _ c.in-Ok.a Missing _ _ _ _ _ c.in-Ok.ensures.told c.in-Some.ensures tells c.finish-in-Ok.ensures.status
-    (λ e. c.finish-in-Ok.ensures.out e ∙ ap (appended _) c.as_slice.ensures)
-    (λ e. c.finish-in-Ok.ensures.err e ∙ ap (appended _) c.as_slice-in-Ok.ensures) (λ e. cc) (λ e. cc) is
+    ends _ files _ _ _ _ c.in-Ok.a Missing _ _ _ _ _ c.in-Ok.ensures.told c.in-Some.ensures tells
+    (is_out c.in-Ok.a _ _ _ _ _ _ _ c.finish-in-Ok.ensures.status c.finish-in-Ok.ensures.out c.finish-in-Ok.ensures.err c.as_slice.ensures c.as_slice-in-Ok.ensures) (λ e. cc) (λ e. cc) is
 
 pub returns-in-Ok-clause-untouched : goal.returns-in-Ok-clause-untouched
 returns-in-Ok-clause-untouched g c no_done no_write =
-    untouched _ _ _ _ c.in-Ok.a _ _ _ c.in-Ok.ensures.told c.finish-in-Ok.ensures.status
-    (λ e. c.finish-in-Ok.ensures.out e ∙ ap (appended _) c.as_slice.ensures) no_done no_write
+    untouched _ _ _ _ c.in-Ok.a _ _ _ _ _ c.in-Ok.ensures.told
+    (is_out c.in-Ok.a _ _ _ _ _ _ _ c.finish-in-Ok.ensures.status c.finish-in-Ok.ensures.out c.finish-in-Ok.ensures.err c.as_slice.ensures c.as_slice-in-Ok.ensures) no_done no_write
 
 pub returns-in-Ok-clause-prefix : goal.returns-in-Ok-clause-prefix
 returns-in-Ok-clause-prefix g c is files tells =
@@ -53,47 +50,23 @@ returns-in_default-clause-complete g c files tells desk_fine out_fine err_fine =
 
 pub returns-in-Ok-clause-done_by_reads : goal.returns-in-Ok-clause-done_by_reads
 returns-in-Ok-clause-done_by_reads g c is =
-    record {
-      command = said c.in-Some.command;
-      given = c.in-Ok.ensures.reads.0;
-      is_said = c.in-Some.ensures;
-      ends = ends_by c.in-Ok.a _ Done _ _ _ _ _ c.in-Ok.ensures.reads.1 c.finish-in-Ok.ensures.status
-          (λ e. c.finish-in-Ok.ensures.out e ∙ ap (appended _) c.as_slice.ensures)
-          (λ e. c.finish-in-Ok.ensures.err e ∙ ap (appended _) c.as_slice-in-Ok.ensures) (λ e. cc) is;
-    }
+    ends_by_reads _ (said c.in-Some.command) c.in-Ok.a Done _ _ _ _ _ c.in-Some.ensures c.in-Ok.ensures.reads
+    (is_out c.in-Ok.a _ _ _ _ _ _ _ c.finish-in-Ok.ensures.status c.finish-in-Ok.ensures.out c.finish-in-Ok.ensures.err c.as_slice.ensures c.as_slice-in-Ok.ensures) (λ e. cc) is
 
 pub returns-in-Ok-clause-refused_by_reads : goal.returns-in-Ok-clause-refused_by_reads
 returns-in-Ok-clause-refused_by_reads g c is =
-    record {
-      command = said c.in-Some.command;
-      given = c.in-Ok.ensures.reads.0;
-      is_said = c.in-Some.ensures;
-      ends = ends_by c.in-Ok.a _ Refused _ _ _ _ _ c.in-Ok.ensures.reads.1 c.finish-in-Ok.ensures.status
-          (λ e. c.finish-in-Ok.ensures.out e ∙ ap (appended _) c.as_slice.ensures)
-          (λ e. c.finish-in-Ok.ensures.err e ∙ ap (appended _) c.as_slice-in-Ok.ensures) (λ e. cc) is;
-    }
+    ends_by_reads _ (said c.in-Some.command) c.in-Ok.a Refused _ _ _ _ _ c.in-Some.ensures c.in-Ok.ensures.reads
+    (is_out c.in-Ok.a _ _ _ _ _ _ _ c.finish-in-Ok.ensures.status c.finish-in-Ok.ensures.out c.finish-in-Ok.ensures.err c.as_slice.ensures c.as_slice-in-Ok.ensures) (λ e. cc) is
 
 pub returns-in-Ok-clause-missing_by_reads : goal.returns-in-Ok-clause-missing_by_reads
 returns-in-Ok-clause-missing_by_reads g c is =
-    record {
-      command = said c.in-Some.command;
-      given = c.in-Ok.ensures.reads.0;
-      is_said = c.in-Some.ensures;
-      ends = ends_by c.in-Ok.a _ Missing _ _ _ _ _ c.in-Ok.ensures.reads.1 c.finish-in-Ok.ensures.status
-          (λ e. c.finish-in-Ok.ensures.out e ∙ ap (appended _) c.as_slice.ensures)
-          (λ e. c.finish-in-Ok.ensures.err e ∙ ap (appended _) c.as_slice-in-Ok.ensures) (λ e. cc) is;
-    }
+    ends_by_reads _ (said c.in-Some.command) c.in-Ok.a Missing _ _ _ _ _ c.in-Some.ensures c.in-Ok.ensures.reads
+    (is_out c.in-Ok.a _ _ _ _ _ _ _ c.finish-in-Ok.ensures.status c.finish-in-Ok.ensures.out c.finish-in-Ok.ensures.err c.as_slice.ensures c.as_slice-in-Ok.ensures) (λ e. cc) is
 
 pub returns-in-Ok-clause-read_fault_by_reads : goal.returns-in-Ok-clause-read_fault_by_reads
 returns-in-Ok-clause-read_fault_by_reads g c is =
-    record {
-      command = said c.in-Some.command;
-      given = c.in-Ok.ensures.reads.0;
-      is_said = c.in-Some.ensures;
-      ends = ends_by c.in-Ok.a _ ReadFault _ _ _ _ _ c.in-Ok.ensures.reads.1 c.finish-in-Ok.ensures.status
-          (λ e. c.finish-in-Ok.ensures.out e ∙ ap (appended _) c.as_slice.ensures)
-          (λ e. c.finish-in-Ok.ensures.err e ∙ ap (appended _) c.as_slice-in-Ok.ensures) (λ e. cc) is;
-    }
+    ends_by_reads _ (said c.in-Some.command) c.in-Ok.a ReadFault _ _ _ _ _ c.in-Some.ensures c.in-Ok.ensures.reads
+    (is_out c.in-Ok.a _ _ _ _ _ _ _ c.finish-in-Ok.ensures.status c.finish-in-Ok.ensures.out c.finish-in-Ok.ensures.err c.as_slice.ensures c.as_slice-in-Ok.ensures) (λ e. cc) is
 
 pub returns-in-Ok-clause-prefix_by_reads : goal.returns-in-Ok-clause-prefix_by_reads
 returns-in-Ok-clause-prefix_by_reads g c is =
@@ -137,24 +110,16 @@ returns-in_default-clause-granted g c files tells desk_fine is_granted =
 
 pub returns-in-Ok-clause-lacking : goal.returns-in-Ok-clause-lacking
 returns-in-Ok-clause-lacking g c is files tells =
-    lacks_file_where c.args.words.now files _ _ _ _ (ends _ files _ _ _ _ c.in-Ok.a Missing _ _ _ _ _ c.in-Ok.ensures.told c.in-Some.ensures tells c.finish-in-Ok.ensures.status
-    (λ e. c.finish-in-Ok.ensures.out e ∙ ap (appended _) c.as_slice.ensures)
-    (λ e. c.finish-in-Ok.ensures.err e ∙ ap (appended _) c.as_slice-in-Ok.ensures) (λ e. cc) (λ e. cc) is)
+    lacks_file_where c.args.words.now files _ _ _ _ (ends _ files _ _ _ _ c.in-Ok.a Missing _ _ _ _ _ c.in-Ok.ensures.told c.in-Some.ensures tells
+    (is_out c.in-Ok.a _ _ _ _ _ _ _ c.finish-in-Ok.ensures.status c.finish-in-Ok.ensures.out c.finish-in-Ok.ensures.err c.as_slice.ensures c.as_slice-in-Ok.ensures) (λ e. cc) (λ e. cc) is)
 
 pub returns-in-Ok-clause-written : goal.returns-in-Ok-clause-written
 returns-in-Ok-clause-written g c is files tells =
-    wrote text_runs text_leaves_nothing c.args.words.now files _ _ _ _ (ends _ files _ _ _ _ c.in-Ok.a Done _ _ _ _ _ c.in-Ok.ensures.told c.in-Some.ensures tells c.finish-in-Ok.ensures.status
-    (λ e. c.finish-in-Ok.ensures.out e ∙ ap (appended _) c.as_slice.ensures)
-    (λ e. c.finish-in-Ok.ensures.err e ∙ ap (appended _) c.as_slice-in-Ok.ensures) (λ e. cc) (λ e. cc) is)
+    wrote text_runs text_leaves_nothing c.args.words.now files _ _ _ _ (ends _ files _ _ _ _ c.in-Ok.a Done _ _ _ _ _ c.in-Ok.ensures.told c.in-Some.ensures tells
+    (is_out c.in-Ok.a _ _ _ _ _ _ _ c.finish-in-Ok.ensures.status c.finish-in-Ok.ensures.out c.finish-in-Ok.ensures.err c.as_slice.ensures c.as_slice-in-Ok.ensures) (λ e. cc) (λ e. cc) is)
 
 pub returns-in-Ok-clause-written_by_reads : goal.returns-in-Ok-clause-written_by_reads
 returns-in-Ok-clause-written_by_reads g c is =
     wrote_by_reads text_runs text_leaves_nothing _ _ _ _ _
-    (record {
-      command = said c.in-Some.command;
-      given = c.in-Ok.ensures.reads.0;
-      is_said = c.in-Some.ensures;
-      ends = ends_by c.in-Ok.a _ Done _ _ _ _ _ c.in-Ok.ensures.reads.1 c.finish-in-Ok.ensures.status
-          (λ e. c.finish-in-Ok.ensures.out e ∙ ap (appended _) c.as_slice.ensures)
-          (λ e. c.finish-in-Ok.ensures.err e ∙ ap (appended _) c.as_slice-in-Ok.ensures) (λ e. cc) is;
-    })
+    (ends_by_reads _ (said c.in-Some.command) c.in-Ok.a Done _ _ _ _ _ c.in-Some.ensures c.in-Ok.ensures.reads
+    (is_out c.in-Ok.a _ _ _ _ _ _ _ c.finish-in-Ok.ensures.status c.finish-in-Ok.ensures.out c.finish-in-Ok.ensures.err c.as_slice.ensures c.as_slice-in-Ok.ensures) (λ e. cc) is)

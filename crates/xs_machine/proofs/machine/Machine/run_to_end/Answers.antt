@@ -1,5 +1,5 @@
 use Rattle.std.proofs.Common.{◌∙◌}
-use Rattle.xs_machine.specs.Rows.{counted_rows}
+use Rattle.xs_api.specs.Rows.{counted_rows}
 use Rattle.xs_machine.specs.Views.{code_in, mach_of}
 use Rattle.xs_machine.proofs.Ends.{smaller, one_more, run_reached}
 use Rattle.xs_machine.proofs.machine.Machine.run_to_end.Goals as goal

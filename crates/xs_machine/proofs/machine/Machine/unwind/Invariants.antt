@@ -1,6 +1,6 @@
 use Rattle.std.proofs.Common.{◌≡◌, vec_len}
 use Rattle.xs_machine.specs.Machine.{unwind}
-use Rattle.xs_machine.specs.Rows.{counted_rows}
+use Rattle.xs_api.specs.Rows.{counted_rows}
 use Rattle.xs_machine.specs.Views.{pending_of, state_of}
 use Rattle.xs_machine.proofs.machine.Machine.unwind.Given as goal
 

@@ -1,0 +1,6 @@
+pub mod World
+pub mod Effects
+pub mod Heaps
+pub mod Rows
+pub mod Places
+pub mod Views

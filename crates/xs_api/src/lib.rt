@@ -1,0 +1,10 @@
+//! Perl as XS code sees it: the counted heap, Perl's stacks, and the rows of the API over them.
+#![tactic(auto)]
+
+mod api;
+mod heap;
+mod stacks;
+
+pub use api::{Abrupt, Frame, Halt, MOST_ITEMS, Operand, Perl, Registered, Stop};
+pub use heap::{Cell, Heap, HeapFail};
+pub use stacks::{Depths, Stacks, pop_top, push_top};

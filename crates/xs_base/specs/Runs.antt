@@ -1,0 +1,33 @@
+-- Runs of bytes of one class in front of a text.
+use Rattle.std.specs.Prelude.{ℕ, not, ◌==◌, ◌&&◌, ◌||◌, nat_le, Bool, List, [], ◌∷◌, if◌then◌else◌}
+use Rattle.xs_base.specs.Scanning.{is_blank, is_digit, is_letter, is_word_byte}
+use Rattle.xs_base.specs.declared.runs.ByteClass.{ByteClass}
+use Rattle.xs_base.specs.declared.runs.ByteClass.TheVariants.{Blank, NoBlank, Digit, Letter, Capital, Word, Name}
+
+-- a capital letter or `_`, of which the words of keywords are made
+abbrev pub is_capital : ℕ → Bool
+is_capital b = (nat_le 65 b && nat_le b 90) || b == 95
+
+-- whether a byte is of a class
+abbrev pub belongs : ByteClass → ℕ → Bool
+belongs Blank b = is_blank b
+belongs NoBlank b = not (is_blank b)
+belongs Digit b = is_digit b
+belongs Letter b = is_letter b
+belongs Capital b = is_capital b
+belongs Word b = is_word_byte b
+belongs Name b = is_word_byte b || b == 58
+
+-- the longest run of a class in front
+abbrev pub front_of : ByteClass → List ℕ → List ℕ
+front_of class [] = []
+front_of class (b ∷ bs) = if belongs class b then b ∷ front_of class bs else []
+
+-- what stands behind that run
+abbrev pub behind : ByteClass → List ℕ → List ℕ
+behind class [] = []
+behind class (b ∷ bs) = if belongs class b then behind class bs else b ∷ bs
+
+-- the text from its first byte on that is no blank
+abbrev pub behind_blanks : List ℕ → List ℕ
+behind_blanks text = behind Blank text

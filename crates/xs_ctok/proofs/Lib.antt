@@ -1,0 +1,5 @@
+pub mod Few
+pub mod LexemeSteps
+pub mod Values
+pub mod Passed
+pub mod Running

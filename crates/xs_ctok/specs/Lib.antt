@@ -1,0 +1,4 @@
+pub mod Lexemes
+pub mod Pieces
+pub mod Words
+pub mod Tokens

@@ -1,0 +1,343 @@
+//! C text is cut into tokens, a byte at a time.
+
+ghost use Rattle.std.specs.Prelude.{◌≡◌, ◌+◌, ◌-◌, ◌^◌, ◌<◌, ◌≤◌, IfOk, List, false, length, true};
+ghost use Rattle.xs_base.specs.Reading.{Gives};
+ghost use Rattle.xs_ctok.specs.Lexemes as spec;
+ghost use Rattle.xs_ctok.specs.Tokens as tokens;
+ghost use Rattle.xs_ctok.specs.Tokens.{Adds, Begins, Moves};
+ghost use Rattle.xs_ctok.specs.Words as words;
+ghost use Rattle.xs_ctok.specs.declared.state.Mode.TheVariants as mode;
+ghost use Rattle.xs_ctok.specs.declared.token.Sort.TheVariants as sort;
+ghost use Rattle.xs_ctok.specs.declared.token.Token.{Token};
+ghost use Rattle.xs_base.specs.declared.fault.Refuse.TheVariants as refuse;
+
+use crate::directives::directive_fault;
+use crate::state::{Mode, State};
+use crate::token::{Sort, Token};
+use crate::words::sort_word;
+use std::alloc::Global;
+use xs_base::{Bytes, Fault, FileOf, Items, Memory, Refuse, is_blank, is_word_byte};
+
+fn is_sign_byte(b: u8) -> bool
+    ensures { result ≡ spec.is_sign_byte b }
+{
+    b == b'!'
+        || b'%' <= b && b <= b'&'
+        || b'(' <= b && b <= b'/'
+        || b':' <= b && b <= b'?'
+        || b == b'['
+        || b']' <= b && b <= b'^'
+        || b'{' <= b && b <= b'~'
+}
+
+fn goes_before_equals(a: u8) -> bool
+    ensures { result ≡ spec.goes_before_equals a }
+{
+    a == b'!'
+        || b'%' <= a && a <= b'&'
+        || b'*' <= a && a <= b'+'
+        || a == b'-'
+        || a == b'/'
+        || b'<' <= a && a <= b'>'
+        || a == b'^'
+        || a == b'|'
+}
+
+fn is_doubled(a: u8) -> bool
+    ensures { result ≡ spec.is_doubled a }
+{
+    a == b'&' || a == b'+' || a == b'-' || a == b'<' || a == b'>' || a == b'|'
+}
+
+fn is_double(a: u8, b: u8) -> bool
+    ensures { result ≡ spec.is_double a b }
+{
+    b == b'=' && goes_before_equals(a) || a == b && is_doubled(a) || a == b'-' && b == b'>'
+}
+
+fn fault(alloc: Global, file: FileOf, code: u16, line: u32) -> Refuse
+    ensures { result ≡ refuse.Fault (tokens.fault_at file code line) }
+{
+    Refuse::Fault(Fault {
+        file,
+        line,
+        code,
+        word: Bytes::new(alloc),
+    })
+}
+
+fn word_token(alloc: Global, file: FileOf, line: u32, text: Bytes) -> Result<Token, Refuse>
+    ensures { Gives result (tokens.word_token file line text (words.sort_word text)) }
+{
+    match sort_word(text.as_slice()) {
+        Some(sort) => Ok(Token { sort, text, line }),
+        None => Err(fault(alloc, file, 703, line)),
+    }
+}
+
+/// A punctuator that stands on a line.
+fn sign(alloc: Global, line: u32, text: &[u8]) -> Result<Token, Memory>
+    ensures { IfOk result (λ t. t ≡ tokens.token sort.Sign line text.now) }
+{
+    Ok(Token {
+        sort: Sort::Sign,
+        text: Bytes::from_slice(alloc, text)?,
+        line,
+    })
+}
+
+fn at_line(line: u32, mode: Mode) -> State
+    ensures { result ≡ spec.at_line line mode }
+{
+    State { mode, line }
+}
+
+/// The state behind a byte with which nothing was open.
+#[tactic(auto, unfolding(crate::specs::Lexemes::begin))]
+fn begin(alloc: Global, file: FileOf, line: u32, b: u8) -> Result<State, Refuse>
+    requires { line + 1 < 2 ^ 32 }
+    ensures state { Begins file line result (spec.begin line b) }
+    ensures line { IfOk result (λ s. s.line ≤ line + 1) }
+{
+    if is_word_byte(b) {
+        let word = Bytes::from_slice(alloc, &[b])?;
+        Ok(at_line(line, Mode::Word(word)))
+    } else if is_blank(b) {
+        Ok(at_line(line, Mode::Between))
+    } else if b == b'\n' {
+        Ok(at_line(line + 1, Mode::Fresh))
+    } else if b == b'\r' {
+        Ok(at_line(line, Mode::Return))
+    } else if b == b'"' {
+        Ok(at_line(line, Mode::Text(Bytes::new(alloc))))
+    } else if is_sign_byte(b) {
+        Ok(at_line(line, Mode::Mark(b)))
+    } else {
+        Err(fault(alloc, file, 701, line))
+    }
+}
+
+/// The state behind a byte with which only blanks stood on the line.
+fn step_fresh(alloc: Global, file: FileOf, line: u32, b: u8) -> Result<State, Refuse>
+    requires { line + 1 < 2 ^ 32 }
+    ensures read { (out : List Token) → Moves file (spec.freshly line b) out result out }
+    ensures line { IfOk result (λ s. s.line ≤ line + 1) }
+{
+    if is_blank(b) {
+        Ok(at_line(line, Mode::Fresh))
+    } else if b == b'#' {
+        Ok(at_line(line, Mode::Directive(Bytes::new(alloc))))
+    } else {
+        begin(alloc, file, line, b)
+    }
+}
+
+/// The state behind the line end of a directive.
+fn next_line(alloc: Global, file: FileOf, line: u32, bytes: &[u8]) -> Result<State, Refuse>
+    requires { line + 1 < 2 ^ 32 }
+    ensures read { (out : List Token) → Moves file (spec.behind (spec.faulted line (spec.directive_fault true bytes.now)) (spec.moved (line + 1) mode.Fresh)) out result out }
+    ensures line { IfOk result (λ s. s.line ≤ line + 1) }
+{
+    match directive_fault(true, bytes) {
+        None => Ok(at_line(line + 1, Mode::Fresh)),
+        Some(code) => Err(fault(alloc, file, code, line)),
+    }
+}
+
+/// The end of a text that ends within a directive.
+fn end_directive(alloc: Global, file: FileOf, line: u32, bytes: &[u8]) -> Result<(), Refuse>
+    ensures { (out : List Token) → Adds file (spec.faulted line (spec.directive_fault false bytes.now)) out result out }
+{
+    match directive_fault(false, bytes) {
+        None => Ok(()),
+        Some(code) => Err(fault(alloc, file, code, line)),
+    }
+}
+
+fn step_directive(
+    alloc: Global,
+    file: FileOf,
+    line: u32,
+    mut bytes: Bytes,
+    b: u8,
+) -> Result<State, Refuse>
+    requires { line + 1 < 2 ^ 32 }
+    ensures read { (out : List Token) → Moves file (spec.step_at (mode.Directive bytes) line b) out result out }
+    ensures line { IfOk result (λ s. s.line ≤ line + 1) }
+{
+    if b == b'\n' {
+        return next_line(alloc, file, line, bytes.as_slice());
+    }
+    bytes.append(&[b])?;
+    Ok(at_line(line, Mode::Directive(bytes)))
+}
+
+fn step_word(
+    alloc: Global,
+    out: &mut Items<Token>,
+    file: FileOf,
+    line: u32,
+    mut word: Bytes,
+    b: u8,
+) -> Result<State, Refuse>
+    requires { line + 1 < 2 ^ 32 }
+    ensures read { Moves file (spec.step_at (mode.Word word) line b) out.old result out.new }
+    ensures line { IfOk result (λ s. s.line ≤ line + 1) }
+{
+    if is_word_byte(b) {
+        word.append(&[b])?;
+        return Ok(at_line(line, Mode::Word(word)));
+    }
+    out.push(word_token(alloc, file, line, word)?)?;
+    begin(alloc, file, line, b)
+}
+
+fn step_text(
+    alloc: Global,
+    out: &mut Items<Token>,
+    file: FileOf,
+    line: u32,
+    mut text: Bytes,
+    b: u8,
+) -> Result<State, Refuse>
+    requires { line + 1 < 2 ^ 32 }
+    ensures read { Moves file (spec.step_at (mode.Text text) line b) out.old result out.new }
+    ensures line { IfOk result (λ s. s.line ≤ line + 1) }
+{
+    if b == b'"' {
+        out.push(Token {
+            sort: Sort::Quoted,
+            text,
+            line,
+        })?;
+        Ok(at_line(line, Mode::Between))
+    } else if b == b'\n' {
+        Err(fault(alloc, file, 702, line))
+    } else if b == b'\\' {
+        Err(fault(alloc, file, 701, line))
+    } else {
+        text.append(&[b])?;
+        Ok(at_line(line, Mode::Text(text)))
+    }
+}
+
+fn step_mark(
+    alloc: Global,
+    out: &mut Items<Token>,
+    file: FileOf,
+    line: u32,
+    a: u8,
+    b: u8,
+) -> Result<State, Refuse>
+    requires { line + 1 < 2 ^ 32 }
+    ensures read { Moves file (spec.step_at (mode.Mark a) line b) out.old result out.new }
+    ensures line { IfOk result (λ s. s.line ≤ line + 1) }
+{
+    if a == b'/' && b == b'*' {
+        Ok(at_line(line, Mode::Comment(line)))
+    } else if is_double(a, b) {
+        out.push(sign(alloc, line, &[a, b])?)?;
+        Ok(at_line(line, Mode::Between))
+    } else {
+        out.push(sign(alloc, line, &[a])?)?;
+        begin(alloc, file, line, b)
+    }
+}
+
+/// The state behind a byte that follows a carriage return.
+fn step_return(alloc: Global, file: FileOf, line: u32, b: u8) -> Result<State, Refuse>
+    requires { line + 1 < 2 ^ 32 }
+    ensures read { (out : List Token) → Moves file (spec.step_at mode.Return line b) out result out }
+    ensures line { IfOk result (λ s. s.line ≤ line + 1) }
+{
+    if b == b'\n' {
+        Ok(at_line(line + 1, Mode::Fresh))
+    } else {
+        Err(fault(alloc, file, 701, line))
+    }
+}
+
+/// The state behind a byte of a comment that was opened on a line.
+fn in_comment(line: u32, opened: u32, b: u8) -> State
+    requires { line + 1 < 2 ^ 32 }
+    ensures state { result ≡ (spec.in_comment line opened b).state }
+    ensures line { result.line ≤ line + 1 }
+{
+    if b == b'*' {
+        at_line(line, Mode::Star(opened))
+    } else if b == b'\n' {
+        at_line(line + 1, Mode::Comment(opened))
+    } else {
+        at_line(line, Mode::Comment(opened))
+    }
+}
+
+/// Reads one byte: adds the tokens that are over, and gives the state behind it.
+fn step(
+    alloc: Global,
+    out: &mut Items<Token>,
+    file: FileOf,
+    state: State,
+    b: u8,
+) -> Result<State, Refuse>
+    requires { state.line + 1 < 2 ^ 32 }
+    ensures read { Moves file (spec.step state b) out.old result out.new }
+    ensures line { IfOk result (λ s. s.line ≤ state.line + 1) }
+{
+    let State { mode, line } = state;
+    match mode {
+        Mode::Fresh => step_fresh(alloc, file, line, b),
+        Mode::Directive(bytes) => step_directive(alloc, file, line, bytes, b),
+        Mode::Between => begin(alloc, file, line, b),
+        Mode::Word(word) => step_word(alloc, out, file, line, word, b),
+        Mode::Text(text) => step_text(alloc, out, file, line, text, b),
+        Mode::Mark(a) => step_mark(alloc, out, file, line, a, b),
+        Mode::Return => step_return(alloc, file, line, b),
+        Mode::Comment(opened) => Ok(in_comment(line, opened, b)),
+        Mode::Star(opened) => {
+            if b == b'/' {
+                Ok(at_line(line, Mode::Between))
+            } else {
+                Ok(in_comment(line, opened, b))
+            }
+        }
+    }
+}
+
+/// Adds the token that is over at the end of the text.
+fn end(alloc: Global, out: &mut Items<Token>, file: FileOf, state: State) -> Result<(), Refuse>
+    ensures { Adds file (spec.last state) out.old result out.new }
+{
+    let State { mode, line } = state;
+    match mode {
+        Mode::Fresh | Mode::Between => Ok(()),
+        Mode::Directive(bytes) => end_directive(alloc, file, line, bytes.as_slice()),
+        Mode::Word(word) => {
+            out.push(word_token(alloc, file, line, word)?)?;
+            Ok(())
+        }
+        Mode::Text(_) => Err(fault(alloc, file, 702, line)),
+        Mode::Mark(a) => {
+            out.push(sign(alloc, line, &[a])?)?;
+            Ok(())
+        }
+        Mode::Return => Err(fault(alloc, file, 701, line)),
+        Mode::Comment(opened) | Mode::Star(opened) => Err(fault(alloc, file, 702, opened)),
+    }
+}
+
+/// The tokens of a C text, or its first fault: 701 for a byte that may not stand where it does, 702 for a text or comment
+/// that does not end, on the line where it begins, 703 for an integer of more than 64 bits, 706 for a `#define` that is not passed over.
+#[tactic(auto, unfolding(crate::specs::Tokens::tokens_of))]
+pub fn tokens(alloc: Global, src: &[u8], file: FileOf) -> Result<Items<Token>, Refuse>
+    requires { length src.now < 2 ^ 32 - 1 }
+    ensures { Gives result (tokens.tokens_of file src.now) }
+{
+    let mut out = Items::new(alloc);
+    let mut state = at_line(1, Mode::Fresh);
+    for b in src {
+        state = step(alloc, &mut out, file, state, *b)?;
+    }
+    end(alloc, &mut out, file, state)?;
+    Ok(out)
+}

@@ -1,0 +1,127 @@
+//! Texts and their tokens.
+
+use crate::{Sort, is_no_name, is_passed_line, is_type_word, tokens};
+use std::alloc::Global;
+use std::process::Abort;
+use std::test::Fail;
+use xs_base::{Bytes, FileOf, Memory, Refuse};
+
+fn letter(sort: Sort) -> &'static str {
+    match sort {
+        Sort::Key => "k",
+        Sort::Name => "n",
+        Sort::Numeral(_) => "#",
+        Sort::OtherNumeral => "?",
+        Sort::Quoted => "q",
+        Sort::Sign => "s",
+    }
+}
+
+/// The tokens of a text, each with its line and a letter for its sort, or the code and the line of its fault.
+fn told(rt: &impl Abort, alloc: Global, text: &str) -> Result<Bytes, Memory> {
+    assert!(rt; text.len() < 10000);
+    let mut out = Bytes::new(alloc);
+    match tokens(alloc, text.as_bytes(), FileOf::Text) {
+        Ok(all) => {
+            for token in all.as_slice() {
+                out.append(token.line.to_string(alloc)?.as_bytes())?;
+                out.append(letter(token.sort).as_bytes())?;
+                out.append(token.text.as_slice())?;
+                out.append(b" ")?;
+            }
+        }
+        Err(Refuse::Fault(fault)) => {
+            out.append(fault.code.to_string(alloc)?.as_bytes())?;
+            out.append(b" at ")?;
+            out.append(fault.line.to_string(alloc)?.as_bytes())?;
+        }
+        Err(Refuse::Memory) => return Err(Memory),
+    }
+    Ok(out)
+}
+
+#[test]
+fn texts(rt: HostRuntime) -> Result<(), Fail> {
+    let rows: [(&str, &str); 31] = [
+        ("", ""),
+        (
+            "if (x1 != 07)\r\n y->z = \"a b\";",
+            "1kif 1s( 1nx1 1s!= 1?07 1s) 2ny 2s-> 2nz 2s= 2qa b 2s; ",
+        ),
+        (
+            "a /* b\n c **/ 18446744073709551615",
+            "1na 2#18446744073709551615 ",
+        ),
+        ("18446744073709551616", "703 at 1"),
+        ("a+++b", "1na 1s++ 1s+ 1nb "),
+        ("a$", "701 at 1"),
+        ("a\n\"b\\\"", "701 at 2"),
+        ("a\n\"b", "702 at 2"),
+        ("a\r", "701 at 1"),
+        ("\n/* a\n*", "702 at 2"),
+        ("#include \"x\"\n # include <x>\n\t#\tinclude@\n", ""),
+        (
+            "#define PERL_NO_GET_CONTEXT\n #\tdefine \t PERL_NO_GET_CONTEXT \t",
+            "",
+        ),
+        ("#include <x>\r\n#define PERL_NO_GET_CONTEXT\r\n\r\n", ""),
+        ("#define PERL_NO_GET_CONTEXT\r", "706 at 1"),
+        ("#define PERL_NO_GET_CONTEXT\r\r\n", "706 at 1"),
+        ("\n#define N 1\n", "706 at 2"),
+        ("#define PERL_NO_GET_CONTEXT 1", "706 at 1"),
+        ("#define PERL_NO_GET_CONTEXTS", "706 at 1"),
+        ("#define", "706 at 1"),
+        ("#defined", "701 at 1"),
+        ("#include1 <x>", "701 at 1"),
+        ("#if 1", "701 at 1"),
+        ("\n\n#\n", "701 at 3"),
+        ("int a; #include \"x\"\n", "701 at 1"),
+        ("/* */ #include <x>\n", "701 at 1"),
+        ("/*\n*/ #include <x>\n", "701 at 2"),
+        ("/* */\n#include <x>\n", ""),
+        ("#include <x> /*\n", ""),
+        ("a\n#include <x>\nb", "1na 3nb "),
+        ("int IV SV ST items", "1kint 1kIV 1kSV 1kST 1kitems "),
+        ("1 01 1x 0", "1#1 1?01 1?1x 1#0 "),
+    ];
+    for (text, wanted) in rows {
+        let got = told(&rt, rt.alloc(), text)?;
+        assert_eq!(rt; got.as_slice(), wanted.as_bytes(), "{text}");
+    }
+    Ok(())
+}
+
+#[test]
+fn words(rt: HostRuntime) -> Result<(), Fail> {
+    let rows: [(&str, bool, bool); 5] = [
+        ("int", true, true),
+        ("SV", true, true),
+        ("void", false, true),
+        ("ST", false, false),
+        ("x", false, false),
+    ];
+    for (word, is_type, is_none) in rows {
+        assert_eq!(rt; is_type_word(word.as_bytes()), is_type, "{word}");
+        assert_eq!(rt; is_no_name(word.as_bytes()), is_none, "{word}");
+    }
+    Ok(())
+}
+
+#[test]
+fn passed_lines(rt: HostRuntime) -> Result<(), Fail> {
+    let rows: [(&str, bool); 9] = [
+        ("", true),
+        (" \t", true),
+        (" #\tinclude <x>", true),
+        ("#define PERL_NO_GET_CONTEXT ", true),
+        ("#define PERL_NO_GET_CONTEXT\r", false),
+        ("#include <x>\n", false),
+        ("#define N 1", false),
+        ("/* */", false),
+        ("int a;", false),
+    ];
+    for (line, is_passed) in rows {
+        assert_eq!(rt; is_passed_line(line.as_bytes()), is_passed, "{line}");
+    }
+    Ok(())
+}
