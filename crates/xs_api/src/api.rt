@@ -1,9 +1,9 @@
 //! The rows of Perl's API, on counted scalars and Perl's stacks.
-ghost use Rattle.std.specs.Prelude.{◌≡◌, ◌-◌, ◌≤ℤ◌, ◌^◌, [], IfOk, Err, drop, neg_ℤ, pos, slice_index_or, take};
+ghost use Rattle.std.specs.Prelude.{◌≡◌, ◌-◌, ◌≤ℤ◌, ◌^◌, [], IfOk, Err, MatchResult, drop, neg_ℤ, pos, slice_index_or, take};
 ghost use Rattle.xs_ccheck.specs.Arena.{row_of};
 ghost use Rattle.xs_api.specs.Places.{Puts, place_of};
 ghost use Rattle.xs_api.specs.Rows as rows;
-ghost use Rattle.xs_api.specs.Views.{Does, Sweeps, world_of};
+ghost use Rattle.xs_api.specs.Views.{Does, Finds, Lacks, MakesTemporary, Sweeps, world_of};
 ghost use Rattle.xs_api.specs.World as world;
 ghost use Rattle.xs_api.specs.World.{free_above};
 
@@ -59,6 +59,30 @@ impl From<Memory> for Halt {
     }
 }
 
+impl From<Trap> for Halt {
+    ghost use Rattle.xs_api.specs.declared.api.Abrupt.TheVariants as abrupt;
+    ghost use Rattle.xs_api.specs.declared.api.Halt.TheVariants as halt;
+
+    ghost from_gives = { λ t e. e ≡ halt.Way (abrupt.Traps t) };
+
+    fn from(trap: Trap) -> Halt {
+        Halt::Way(Abrupt::Traps(trap))
+    }
+}
+
+impl From<Stop> for Halt {
+    ghost use Rattle.xs_api.specs.Views.{halt_of};
+
+    ghost from_gives = { λ s e. e ≡ halt_of s };
+
+    fn from(stop: Stop) -> Halt {
+        match stop {
+            Stop::Trap(trap) => Halt::Way(Abrupt::Traps(trap)),
+            Stop::Memory => Halt::Memory,
+        }
+    }
+}
+
 /// What an XS function knows of its call.
 #[derive(Debug, Drop)]
 pub struct Frame {
@@ -83,6 +107,16 @@ pub struct Registered {
 pub enum Stop {
     Trap(Trap),
     Memory,
+}
+
+impl From<Memory> for Stop {
+    ghost use Rattle.xs_api.specs.declared.api.Stop.TheVariants as stop;
+
+    ghost from_gives = { λ _ e. e ≡ stop.Memory };
+
+    fn from(_: Memory) -> Stop {
+        Stop::Memory
+    }
 }
 
 /// What the rows work on.
@@ -112,16 +146,38 @@ impl Perl {
         }
     }
 
+    // The name and the value of a scalar that a row needs.
+    fn needed(&self, s: Option<Name>) -> Result<(Name, &Plain), Trap>
+        ensures { MatchResult result (λ found. Finds s (world_of self.now) found.0 found.1.now) (λ trap. Lacks s (world_of self.now) trap) }
+    {
+        let Some(n) = s else {
+            return Err(Trap::Null);
+        };
+        match self.heap.value(n) {
+            None => Err(self.gone(n)),
+            Some(value) => Ok((n, value)),
+        }
+    }
+
     /// `SvIV`: the number of a scalar as an IV.
     pub fn sv_iv(&self, s: Option<Name>, frame: &Frame) -> Result<Operand, Halt>
         ensures { Does (rows.sv_iv s frame.now (world_of self.now)) result frame.now (world_of self.now) }
     {
-        let Some(n) = s else {
-            return trapped(Trap::Null);
-        };
-        match self.heap.value(n) {
-            None => trapped(self.gone(n)),
-            Some(value) => Ok(Operand::Num(CInt::from_iv(to_iv(value)))),
+        let (_, value) = self.needed(s)?;
+        Ok(Operand::Num(CInt::from_iv(to_iv(value))))
+    }
+
+    /// A new scalar with a value that is a temporary.
+    pub fn make_temporary(&mut self, value: Plain) -> Result<Name, Stop>
+        ensures { MakesTemporary value (world_of self.old) result (world_of self.new) }
+    {
+        match self.heap.make(value) {
+            Ok(n) => {
+                push_top(&mut self.stacks.temps, n)?;
+                Ok(n)
+            }
+            Err(HeapFail::Large) => Err(Stop::Trap(Trap::Large)),
+            Err(HeapFail::Memory) => Err(Stop::Memory),
         }
     }
 
@@ -129,26 +185,15 @@ impl Perl {
     pub fn new_mortal(&mut self, value: Plain, frame: &Frame) -> Result<Operand, Halt>
         ensures { Does (rows.new_mortal value frame.now (world_of self.old)) result frame.now (world_of self.new) }
     {
-        match self.heap.make(value) {
-            Ok(n) => {
-                push_top(&mut self.stacks.temps, n)?;
-                Ok(Operand::Scalar(Some(n)))
-            }
-            Err(HeapFail::Large) => trapped(Trap::Large),
-            Err(HeapFail::Memory) => Err(Halt::Memory),
-        }
+        let n = self.make_temporary(value)?;
+        Ok(Operand::Scalar(Some(n)))
     }
 
     /// `sv_setiv`: sets a scalar to a number.
     pub fn sv_setiv(&mut self, s: Option<Name>, v: CInt, frame: &Frame) -> Result<Operand, Halt>
         ensures { Does (rows.sv_setiv s v frame.now (world_of self.old)) result frame.now (world_of self.new) }
     {
-        let Some(n) = s else {
-            return trapped(Trap::Null);
-        };
-        if self.heap.value(n).is_none() {
-            return trapped(self.gone(n));
-        }
+        let (n, _) = self.needed(s)?;
         if 1 <= n && n <= 3 {
             let text = Bytes::from_slice(
                 self.alloc,
@@ -180,20 +225,12 @@ impl Perl {
     pub fn st_set(&mut self, s: Option<Name>, i: CInt, frame: &Frame) -> Result<Operand, Halt>
         ensures { Does (rows.st_set s i.value frame.now (world_of self.old)) result frame.now (world_of self.new) }
     {
-        let Some(n) = s else {
-            return trapped(Trap::Null);
-        };
-        if self.heap.value(n).is_none() {
-            return trapped(self.gone(n));
-        }
+        let (n, _) = self.needed(s)?;
         let Some(at) = place(frame.base, i.value(), self.stacks.args.len()) else {
             return trapped(Trap::Bounds);
         };
-        match put_item(&mut self.stacks.args, at, n) {
-            Ok(()) => Ok(Operand::Scalar(Some(n))),
-            Err(Stop::Trap(trap)) => trapped(trap),
-            Err(Stop::Memory) => Err(Halt::Memory),
-        }
+        put_item(&mut self.stacks.args, at, n)?;
+        Ok(Operand::Scalar(Some(n)))
     }
 
     /// `dXSARGS`: takes the mark, which is the base.
@@ -239,11 +276,8 @@ impl Perl {
     pub fn xsreturn_yes(&mut self, frame: &Frame) -> Result<Operand, Halt>
         ensures { Does (rows.return_one rows.yes frame.now (world_of self.old)) result frame.now (world_of self.new) }
     {
-        match put_item(&mut self.stacks.args, frame.base as usize, YES) {
-            Ok(()) => self.return_to(frame.base + 1, frame),
-            Err(Stop::Trap(trap)) => trapped(trap),
-            Err(Stop::Memory) => Err(Halt::Memory),
-        }
+        put_item(&mut self.stacks.args, frame.base as usize, YES)?;
+        self.return_to(frame.base + 1, frame)
     }
 
     /// The end of an XS function: returns all from the base to the top.

@@ -68,14 +68,14 @@ next_told values i names w start here e = ap (λ zs. before names (args_made zs 
 
 pub more_told : (values zs : List ℤ) (z : ℤ) (names : List ℕ) (n : ℕ) (start old new : Mach World) → before names (args_made (z ∷ zs) old.state.store) ≡ args_made values start.state.store → MakesArgument (Int z) old (Ok n) new → before (names ++ n ∷ []) (args_made zs new.state.store) ≡ args_made values start.state.store
 more_told values zs z names n start old new e m =
-    before_last names n (args_made zs new.state.store) ∙ ap (before names) (sym (one_made z zs old.state.frame old.state.store new.state.store n m.0)) ∙ e
+    before_last names n (args_made zs new.state.store) ∙ ap (before names) (sym (one_made z zs old.state.frame old.state.store new.state.store n (m.0 old.state.frame))) ∙ e
 
 pub same_but_world : (start old new : Mach World) (z : ℤ) (n : ℕ) → old ≡ with_world old.state.store start → MakesArgument (Int z) old (Ok n) new → new ≡ with_world new.state.store start
 same_but_world start old new z n e m = m.1 ∙ ap (with_world new.state.store) e
 
 pub stop_told : (values zs : List ℤ) (z : ℤ) (names : List ℕ) (s : Stop) (start old new : Mach World) → before names (args_made (z ∷ zs) old.state.store) ≡ args_made values start.state.store → old ≡ with_world old.state.store start → MakesArgument (Int z) old (Err s) new → MakesArguments values start (Err s) new
 stop_told values zs z names (stop.Trap t) start old new e w m =
-    (sym e ∙ ap (before names) (none_made z zs old.state.frame old.state.store t m.0) ∙ before_none names t, ap (λ k. k.pending) m.1 ∙ ap (λ k. k.pending) w)
+    (sym e ∙ ap (before names) (none_made z zs old.state.frame old.state.store t (m.0.0 old.state.frame)) ∙ before_none names t, ap (λ k. k.pending) m.1 ∙ ap (λ k. k.pending) w)
 stop_told values zs z names stop.Memory start old new e w m = record {}
 
 pub end_told : (values : List ℤ) (names : List ℕ) (start now : Mach World) → before names (args_made [] now.state.store) ≡ args_made values start.state.store → args_made values start.state.store ≡ AllMade names now.state.store

@@ -22,11 +22,11 @@ use Rattle.xs_iface.specs.declared.xsub.Param.{Param}
 use Rattle.xs_iface.specs.declared.xsub.Term.TheVariants.{Literal, Parameter}
 use Rattle.xs_iface.specs.declared.xsub.Xsub.{Xsub}
 use Rattle.xs_iface.specs.Iface.{body_paragraph, collect, draft_from, draft_of, draft_or_fault, first_fault, interface_fault, module_from, module_of, module_with, name_fault, param_at, part_line, perl_name, xsub_from, xsub_of}
-use Rattle.xs_iface.specs.Paragraph.{block_text, interface_of, interface_with, is_frame, is_literal, is_term, literal_of, paragraph_from, paragraph_of, paragraph_with, place_of, sum_of, sum_with, term_of}
+use Rattle.xs_iface.specs.Paragraph.{interface_of, interface_with, is_frame, is_literal, is_term, literal_of, paragraph_from, paragraph_of, paragraph_with, place_of, sum_of, sum_with, term_of}
 use Rattle.xs_base.proofs.FrontRuns.{front_belongs}
 use Rattle.xs_base.proofs.Qualified.{identifier_bytes}
 use Rattle.xs_base.specs.Names.{is_among}
-use Rattle.xs_base.specs.Runs.{behind, belongs, front_of}
+use Rattle.xs_base.specs.Runs.{behind, behind_blanks, belongs, front_of}
 use Rattle.xs_base.specs.Scanning.{after_word, is_identifier, value_of_digits}
 use Rattle.xs_iface.specs.Scan.{Chain, chain_of, chain_within, linked}
 use Rattle.xs_iface.specs.SumForm.{All, Differ, IsSumModule, IsSumXsub, IsTermOf}
@@ -183,11 +183,8 @@ sum_with_is params text words s some h =
 
 sum_is : (params : List (List ℕ)) (text : List ℕ) (s : Sum) → sum_of params text ≡ Some s → IsSum params s
 sum_is params text s h =
-    option_and_then_some
-    (λ (right : List ℕ). option_and_then (λ (terms : List ℕ). sum_with params (front_of Blank text) (chain_of (codes " + ") terms)) (after_word (codes "RETVAL = ") right)) (block_text text) s h
-    (λ right stands e.
-    option_and_then_some (λ (terms : List ℕ). sum_with params (front_of Blank text) (chain_of (codes " + ") terms)) (after_word (codes "RETVAL = ") right) s e
-    (λ terms found. sum_with_is params text (chain_of (codes " + ") terms) s (has_word (codes " + ") terms)))
+    option_and_then_some (λ (terms : List ℕ). sum_with params (front_of Blank text) (chain_of (codes " + ") terms)) (after_word (codes "RETVAL = ") (behind_blanks text)) s h
+    (λ terms found. sum_with_is params text (chain_of (codes " + ") terms) s (has_word (codes " + ") terms))
 
 paragraph_with_is : (interface sum : Line) (output_line : ℕ) (q : Paragraph) → paragraph_with interface sum output_line ≡ Some q → IsSumParagraph q
 paragraph_with_is interface sum output_line q h =

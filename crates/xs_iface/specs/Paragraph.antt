@@ -13,8 +13,7 @@ use Rattle.xs_iface.specs.declared.xsub.Term.{Term}
 use Rattle.xs_iface.specs.declared.xsub.Term.TheVariants.{Literal, Parameter}
 use Rattle.xs_iface.specs.Words.{is_free}
 use Rattle.xs_base.specs.Names.{is_among}
-use Rattle.xs_base.specs.Readers.{head_is}
-use Rattle.xs_base.specs.Runs.{behind, behind_blanks, belongs, front_of}
+use Rattle.xs_base.specs.Runs.{behind, behind_blanks, front_of}
 use Rattle.xs_base.specs.Scanning.{after_word, is_blank_line, is_digit, value_of_digits}
 use Rattle.xs_iface.specs.Scan.{Chain, chain_of}
 
@@ -45,17 +44,9 @@ term_of params word = if is_among params word then Parameter (place_of params wo
 
 -- ---- lines
 
--- what stands behind the blanks in front of a line, of which there is one at least
-abbrev pub block_text : List ℕ → Option (List ℕ)
-block_text text = if head_is (belongs Blank) text then Some (behind_blanks text) else None
-
-abbrev pub is_word_alone : List ℕ → Option (List ℕ) → Bool
-is_word_alone word None = false
-is_word_alone word (Some rest) = bytes_eq rest word
-
--- a line of blanks, one at least, and a word
+-- a line of blanks, if any, and a word
 abbrev pub is_block_line : List ℕ → List ℕ → Bool
-is_block_line word text = is_word_alone word (block_text text)
+is_block_line word text = bytes_eq (behind_blanks text) word
 
 -- the names are free, and the line is at its end
 abbrev pub interface_with : List ℕ → Chain → Option Interface
@@ -73,10 +64,10 @@ sum_with params indent words =
     if bytes_eq words.1 (codes ";") && nat_le (length words.0) MOST_TERMS && list_all (is_term params) words.0
     then Some (record { indent = indent; words = words.0 }) else None
 
--- `RETVAL = T + T + ..;` behind blanks
+-- `RETVAL = T + T + ..;` behind blanks, if any
 abbrev pub sum_of : List (List ℕ) → List ℕ → Option Sum
 sum_of params text =
-    option_and_then (λ right. option_and_then (λ terms. sum_with params (front_of Blank text) (chain_of (codes " + ") terms)) (after_word (codes "RETVAL = ") right)) (block_text text)
+    option_and_then (λ terms. sum_with params (front_of Blank text) (chain_of (codes " + ") terms)) (after_word (codes "RETVAL = ") (behind_blanks text))
 
 -- ---- paragraphs
 

@@ -2,7 +2,7 @@
 ghost use Rattle.std.specs.List.{list_all};
 ghost use Rattle.std.specs.Prelude.{◌≡◌, IfOk, MatchOption, None, Some};
 ghost use Rattle.xs_base.specs.Scanning.{is_blank_line};
-ghost use Rattle.xs_iface.specs.Paragraph.{block_text, interface_of, is_block_line, is_frame, is_sum_paragraph, paragraph_of, paragraph_with, sum_of};
+ghost use Rattle.xs_iface.specs.Paragraph.{interface_of, is_block_line, is_frame, is_sum_paragraph, paragraph_of, paragraph_with, sum_of};
 ghost use Rattle.xs_iface.specs.Words.{is_free};
 
 use crate::scan::read_chain;
@@ -10,8 +10,7 @@ use crate::terms::{MOST_TERMS, are_terms};
 use crate::words::{is_free, is_same};
 use std::alloc::Global;
 use xs_base::{
-    ByteClass, Bytes, Items, Line, Memory, after_word, begins_with_class, behind_blanks, cut_run,
-    is_blank_line,
+    ByteClass, Bytes, Items, Line, Memory, after_word, behind_blanks, cut_run, is_blank_line,
 };
 
 /// What an interface line says.
@@ -45,25 +44,11 @@ pub struct Paragraph {
     pub output_line: u32,
 }
 
-// What stands behind the blanks in front of a line, of which there is one at least.
-fn block_text(text: &[u8]) -> Option<&[u8]>
-    ensures { MatchOption result (block_text text.now ≡ None) (λ rest. block_text text.now ≡ Some rest.now) }
-{
-    if begins_with_class(ByteClass::Blank, text) {
-        Some(behind_blanks(text))
-    } else {
-        None
-    }
-}
-
-// Whether a line is blanks, one at least, and a word.
+// Whether a line is blanks, if any, and a word.
 fn is_block_line(word: &[u8], text: &[u8]) -> bool
     ensures { result ≡ is_block_line word.now text.now }
 {
-    match block_text(text) {
-        Some(rest) => is_same(rest, word),
-        None => false,
-    }
+    is_same(behind_blanks(text), word)
 }
 
 // Whether each name is free.
@@ -92,14 +77,11 @@ fn read_interface(alloc: Global, text: &[u8]) -> Result<Option<Interface>, Memor
     }
 }
 
-// `RETVAL = T + T + ..;` behind blanks.
+// `RETVAL = T + T + ..;` behind blanks, if any.
 fn read_sum(alloc: Global, params: &[Bytes], text: &[u8]) -> Result<Option<Sum>, Memory>
     ensures { IfOk result (λ sum. sum ≡ sum_of params.now text.now) }
 {
-    let (indent, _rest) = cut_run(ByteClass::Blank, text);
-    let Some(right) = block_text(text) else {
-        return Ok(None);
-    };
+    let (indent, right) = cut_run(ByteClass::Blank, text);
     let Some(terms) = after_word(b"RETVAL = ", right) else {
         return Ok(None);
     };

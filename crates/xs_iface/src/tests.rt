@@ -115,7 +115,7 @@ fn file_of(alloc: Global, short: &[u8]) -> Result<Bytes, Memory> {
 #[test]
 fn table(rt: HostRuntime) -> Result<(), Fail> {
     let alloc = rt.alloc();
-    let cases: [(&[u8], &[u8]); 25] = [
+    let cases: [(&[u8], &[u8]); 26] = [
         (b"MODULE = M", b"M 1\n"),
         (
             b"MODULE = M PACKAGE = M\n!add(int a, int b)|a + b + 7",
@@ -173,7 +173,11 @@ fn table(rt: HostRuntime) -> Result<(), Fail> {
         (b"MODULE = M\n!f(int a)|01", b"F 2 999 "),
         (b"MODULE = M\n!f(int items)|1", b"F 2 999 "),
         (
-            b"MODULE = M\nint\nf(int a)\nCODE:\n    RETVAL = a;\n  OUTPUT:\n    RETVAL",
+            b"MODULE = M\nint\nf(int a)\nCODE:\nRETVAL = a;\nOUTPUT:\nRETVAL",
+            b"M 1\nX 3 5 7 'f' f XS__f a@3 = $0\n",
+        ),
+        (
+            b"MODULE = M\nint\nf(int a)\n  CODE :\n    RETVAL = a;\n  OUTPUT:\n    RETVAL",
             b"F 2 999 ",
         ),
         (

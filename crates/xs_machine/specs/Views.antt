@@ -1,5 +1,5 @@
 -- The machine of the program, seen as the machine of the definitions.
-use Rattle.std.specs.Prelude.{◌≡◌, ℕ, List, [], map, reverse, Some, Result, Ok, Err}
+use Rattle.std.specs.Prelude.{◌≡◌, ℕ, List, [], ◌∷◌, map, reverse, Result, Ok, Err}
 use Rattle.xs_values.specs.declared.trap.Trap.{Trap}
 use Rattle.xs_api.specs.declared.api.Operand.{Operand}
 use Rattle.xs_ccheck.specs.declared.code.Typed.{Typed}
@@ -9,19 +9,15 @@ use Rattle.xs_machine.specs.declared.machine.Task.{Task}
 use Rattle.xs_machine.specs.declared.machine.Task.TheVariants as task
 use Rattle.xs_ccheck.specs.Arena.{row_of, tree_at, trees_at}
 use Rattle.xs_ccheck.specs.Functions.{code_of}
-use Rattle.xs_machine.specs.Machine.{Mach, Work, DoTree, DoTrees, DoBlock, SetVar, Operate, ConvertTop, DoRow, Branch, ForgetTop, DropTop, Enter, Leave}
-use Rattle.xs_api.specs.Effects.{Gives, Ends}
+use Rattle.xs_machine.specs.Machine.{Mach, Work, short_of, DoTree, DoTrees, DoBlock, SetVar, Operate, ConvertTop, DoRow, Branch, ForgetTop, DropTop, Enter, Leave}
 use Rattle.xs_machine.specs.State.{Out, Done, State, operate, with_store}
 use Rattle.xs_machine.specs.State as state
-use Rattle.xs_api.specs.Rows.{new_mortal}
-use Rattle.xs_api.specs.declared.api.Operand.TheVariants.{Scalar}
 use Rattle.xs_api.specs.declared.api.Stop.{Stop}
-use Rattle.xs_api.specs.declared.api.Stop.TheVariants as stop
 use Rattle.xs_values.specs.declared.plain.Plain.{Plain}
 use Rattle.xs_api.specs.declared.api.Abrupt.TheVariants.{Traps}
 use Rattle.xs_values.specs.declared.operator.Op.{Op}
 use Rattle.xs_ccheck.specs.Tree.{Code}
-use Rattle.xs_api.specs.Views.{world_of}
+use Rattle.xs_api.specs.Views.{MakesTemporary, world_of}
 use Rattle.xs_api.specs.World.{World}
 
 abbrev pub task_of : Typed → Task → Work
@@ -59,6 +55,14 @@ abbrev pub given_or : Result Operand Trap → State World → Out World Operand
 given_or (Ok v) σ = Done v σ
 given_or (Err t) σ = state.Stop (Traps t) σ
 
+-- a machine that is short of an operand ends all work
+abbrev pub IsShort : Machine → Machine → Type 0
+IsShort old new = (operands_of old ≡ []) × (mach_of new ≡ short_of (state_of old))
+
+-- the topmost operand of a machine, which goes on with the others
+abbrev pub HasTop : Operand → Machine → Machine → Type 0
+HasTop v old new = (operands_of old ≡ v ∷ operands_of new) × (pending_of new ≡ pending_of old) × (state_of new ≡ state_of old) × (new.stopped ≡ old.stopped)
+
 -- what an operator gave
 abbrev pub Operates : Op → Operand → Operand → Result Operand Trap → Type 0
 Operates op a b r = (σ : State World) → operate op a b σ ≡ given_or r σ
@@ -67,11 +71,9 @@ Operates op a b r = (σ : State World) → operate op a b σ ≡ given_or r σ
 abbrev pub with_world : World → Mach World → Mach World
 with_world w m = record { pending = m.pending; operands = m.operands; state = with_store w m.state; stopped = m.stopped }
 
--- An argument is made as a temporary, the limit is reached, or memory is not found.
+-- an argument is made as a temporary, and the machine is else as it was
 abbrev pub MakesArgument : Plain → Mach World → Result ℕ Stop → Mach World → Type 0
-MakesArgument p old (Ok n) new = (new_mortal p old.state.frame old.state.store ≡ Gives (Scalar (Some n)) old.state.frame new.state.store) × (new ≡ with_world new.state.store old)
-MakesArgument p old (Err (stop.Trap t)) new = (new_mortal p old.state.frame old.state.store ≡ Ends (Traps t) old.state.frame old.state.store) × (new ≡ old)
-MakesArgument p old (Err stop.Memory) new = Unit {0}
+MakesArgument p old made new = MakesTemporary p old.state.store made new.state.store × (new ≡ with_world new.state.store old)
 
 -- for want of memory nothing is run any more
 abbrev pub IsFailed : Mach World → Type 0

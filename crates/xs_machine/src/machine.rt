@@ -13,8 +13,8 @@ ghost use Rattle.xs_api.specs.World.{depths_of, live_of};
 use crate::work::act_on;
 use std::alloc::Global;
 use xs_api::{
-    Abrupt, Depths, Frame, Heap, HeapFail, MOST_ITEMS, Operand, Perl, Registered, Stacks, Stop,
-    pop_top, push_top,
+    Abrupt, Depths, Frame, Heap, MOST_ITEMS, Operand, Perl, Registered, Stacks, Stop, pop_top,
+    push_top,
 };
 use xs_base::{Bytes, Items, Memory};
 use xs_ccheck::{RowNode, Typed, ValueType};
@@ -206,14 +206,7 @@ impl Machine {
         ensures made { MakesArgument value (mach_of self.old) result (mach_of self.new) }
         ensures code { code_in self.new ≡ code_in self.old }
     {
-        match self.perl.heap.make(value) {
-            Ok(n) => match push_top(&mut self.perl.stacks.temps, n) {
-                Ok(()) => Ok(n),
-                Err(_) => Err(Stop::Memory),
-            },
-            Err(HeapFail::Large) => Err(Stop::Trap(Trap::Large)),
-            Err(HeapFail::Memory) => Err(Stop::Memory),
-        }
+        self.perl.make_temporary(value)
     }
 
     // One step. For want of memory it ends all work.

@@ -1,11 +1,11 @@
 //! One piece of pending work.
-ghost use Rattle.std.specs.Prelude.{◌≡◌, ◌∷◌, [], IfOk, OnOk, Some, replicate, reverse, slice_index_or, slice_set};
+ghost use Rattle.std.specs.Prelude.{◌≡◌, ◌∷◌, [], IfOk, MatchOption, OnOk, Some, replicate, reverse, slice_index_or, slice_set};
 ghost use Rattle.xs_ccheck.specs.Arena.{row_of, tree_at, tree_from, trees_at};
 ghost use Rattle.xs_machine.specs.Machine as machine;
 ghost use Rattle.xs_api.specs.Rows.{counted_rows};
 ghost use Rattle.xs_machine.specs.State as state;
 ghost use Rattle.xs_ccheck.specs.Tree.{Function, tree_count};
-ghost use Rattle.xs_machine.specs.Views.{Operates, code_in, given_or, mach_of, operands_of, pending_of, state_of, task_of};
+ghost use Rattle.xs_machine.specs.Views.{HasTop, IsShort, Operates, code_in, given_or, mach_of, operands_of, pending_of, state_of, task_of};
 
 use crate::machine::{Machine, Outcome, Task};
 use std::alloc::Global;
@@ -136,12 +136,18 @@ fn act_on_block(m: &mut Machine, i: u32) -> Result<(), Memory>
     }
 }
 
-// Where an operand is missing, which no tree of the types stage comes to.
-fn short_of(m: &mut Machine)
-    ensures halts { mach_of m.new ≡ machine.short_of (state_of m.old) }
+// Takes the topmost operand. Where it is missing, which no tree of the types stage comes to, all work ends.
+fn pop_operand(m: &mut Machine) -> Option<Operand>
+    ensures pops { MatchOption result (IsShort m.old m.new) (λ v. HasTop v m.old m.new) }
     ensures typed { m.new.typed ≡ m.old.typed }
 {
-    m.halt(Outcome::Trapped(Trap::Kind));
+    match pop_top(&mut m.operands) {
+        None => {
+            m.halt(Outcome::Trapped(Trap::Kind));
+            None
+        }
+        Some(v) => Some(v),
+    }
 }
 
 // Goes on with a value, or unwinds.
@@ -165,8 +171,7 @@ fn act_on_assign(m: &mut Machine, x: u32, t: ValueType) -> Result<(), Memory>
     ensures acts { OnOk result (mach_of m.new ≡ machine.act counted_rows (code_in m.old) (machine.SetVar x t) (pending_of m.old) (operands_of m.old) (state_of m.old)) }
     ensures typed { m.new.typed ≡ m.old.typed }
 {
-    let Some(v) = pop_top(&mut m.operands) else {
-        short_of(m);
+    let Some(v) = pop_operand(m) else {
         return Ok(());
     };
     match assigned(t, v) {
@@ -207,12 +212,10 @@ fn act_on_operator(m: &mut Machine, op: Op) -> Result<(), Memory>
     ensures acts { OnOk result (mach_of m.new ≡ machine.act counted_rows (code_in m.old) (machine.Operate op) (pending_of m.old) (operands_of m.old) (state_of m.old)) }
     ensures typed { m.new.typed ≡ m.old.typed }
 {
-    let Some(b) = pop_top(&mut m.operands) else {
-        short_of(m);
+    let Some(b) = pop_operand(m) else {
         return Ok(());
     };
-    let Some(a) = pop_top(&mut m.operands) else {
-        short_of(m);
+    let Some(a) = pop_operand(m) else {
         return Ok(());
     };
     land(m, operate(op, a, b))
@@ -239,8 +242,7 @@ fn act_on_convert(m: &mut Machine, kind: Kind) -> Result<(), Memory>
     ensures acts { OnOk result (mach_of m.new ≡ machine.act counted_rows (code_in m.old) (machine.ConvertTop kind) (pending_of m.old) (operands_of m.old) (state_of m.old)) }
     ensures typed { m.new.typed ≡ m.old.typed }
 {
-    let Some(v) = pop_top(&mut m.operands) else {
-        short_of(m);
+    let Some(v) = pop_operand(m) else {
         return Ok(());
     };
     match assigned(ValueType::Number(kind), v) {
@@ -255,8 +257,7 @@ fn act_on_branch(m: &mut Machine, a: u32, b: u32) -> Result<(), Memory>
     ensures acts { OnOk result (mach_of m.new ≡ machine.act counted_rows (code_in m.old) (task_of m.old.typed (Task.Branch a b)) (pending_of m.old) (operands_of m.old) (state_of m.old)) }
     ensures typed { m.new.typed ≡ m.old.typed }
 {
-    let Some(v) = pop_top(&mut m.operands) else {
-        short_of(m);
+    let Some(v) = pop_operand(m) else {
         return Ok(());
     };
     match truth_of(v) {
@@ -389,17 +390,12 @@ pub(crate) fn act_on(m: &mut Machine, task: Task) -> Result<(), Memory>
         Task::ConvertTop(kind) => act_on_convert(m, kind),
         Task::DoRow(row, n) => act_on_row(m, row, n),
         Task::Branch(a, b) => act_on_branch(m, a, b),
-        Task::ForgetTop => match pop_top(&mut m.operands) {
-            None => {
-                short_of(m);
-                Ok(())
-            }
+        Task::ForgetTop => match pop_operand(m) {
+            None => Ok(()),
             Some(_) => m.push(Operand::Void),
         },
         Task::DropTop => {
-            if pop_top(&mut m.operands).is_none() {
-                short_of(m);
-            }
+            pop_operand(m);
             Ok(())
         }
         Task::Enter(f) => enter(m, f),
