@@ -9,8 +9,6 @@ use Rattle.xs_iface.specs.declared.xsub.Module.{Module}
 use Rattle.xs_iface.specs.declared.xsub.Term.{Term}
 use Rattle.xs_iface.specs.declared.xsub.Term.TheVariants.{Literal, Parameter}
 use Rattle.xs_iface.specs.declared.xsub.Xsub.{Xsub}
-use Rattle.xs_machine.specs.Machine.{undefined_text}
-use Rattle.xs_api.specs.Rows.{most_items, usage_text}
 use Rattle.xs_script.specs.ValueText.{value_text_of}
 use Rattle.xs_stub.specs.Stub.{joined_names}
 use Rattle.xs_values.specs.declared.kind.Kind.TheVariants.{I32, I64}
@@ -46,7 +44,7 @@ names_from n (z ∷ zs) = n ∷ names_from (n + 1) zs
 
 -- 1. The argument test: the croak names the parameters and the name under which the call was made.
 abbrev pub usage_croak : List ℕ → Xsub → List ℕ
-usage_croak called x = usage_text called (joined_names x.params)
+usage_croak called x = codes "Usage: " ++ called ++ codes "(" ++ joined_names x.params ++ codes ")"
 
 -- 4. Each parameter of type `int` gets the IV of its argument, converted.
 abbrev pub input_of : Plain → Number
@@ -92,14 +90,17 @@ xsub_ended called x store args =
 abbrev pub xsub_named : List ℕ → List Xsub → Option Xsub
 xsub_named name xs = find (λ (x : Xsub). bytes_eq x.full name) xs
 
--- a name that no XSUB has croaks
+-- A name that no XSUB has croaks.
+abbrev pub undefined_croak : List ℕ → List ℕ
+undefined_croak called = codes "Undefined subroutine &" ++ called ++ codes " called"
+
 abbrev pub call_ended : List ℕ → Option Xsub → Store → List ℕ → Ended
-call_ended called None store args = record { how = Croaked (undefined_text called); store = store }
+call_ended called None store args = record { how = Croaked (undefined_croak called); store = store }
 call_ended called (Some x) store args = xsub_ended called x store args
 
 -- a call with the scalars of its arguments, which the argument list holds up to a limit
 abbrev pub called : Module → List ℕ → Store → List ℕ → Ended
-called m name store args = if nat_le (length args) most_items then call_ended name (xsub_named name m.xsubs) store args else record { how = Trapped Large; store = store }
+called m name store args = if nat_le (length args) 1000000 then call_ended name (xsub_named name m.xsubs) store args else record { how = Trapped Large; store = store }
 
 -- ---- the transcript
 
