@@ -1,46 +1,31 @@
 -- What a heap keeps over its calls.
-use Rattle.std.proofs.Common.{◌≡◌, ℕ, zero, suc, ◌+◌, ◌-◌, ◌<◌, ◌≤◌, Bool, true, false, [], ◌∷◌, ◌++◌, length, drop, Option, Some, None, refl, sym, ap, ◌∙◌, subst, arith, length-append, length-drop, inl, inr}
+use Rattle.std.proofs.Common.{◌≡◌, ℕ, zero, suc, ◌+◌, ◌-◌, ◌<◌, ◌≤◌, Bool, true, false, [], ◌∷◌, ◌++◌, length, drop, Option, Some, None, sym, ap, ◌∙◌, subst, arith, length-append, length-drop, inl, inr}
 use Rattle.std.proofs.lemmas.Bool.{cases_lt}
-use Rattle.std.specs.Prelude.{slice_set}
+use Rattle.std.proofs.lemmas.List.{drop-append-le, drop-set-add, drop-set-lt, get_or-drop, get_or-set_other, get_or_append_left}
+use Rattle.std.proofs.lemmas.List.Sums.{count_by-le-length, sum_by-set, sum_by_push}
+use Rattle.std.specs.Option.{is_some}
+use Rattle.std.specs.Prelude.{cond, slice_set}
 use Rattle.std.proofs.Math.ListN.{length-set}
 use Rattle.xs_api.specs.declared.heap.Cell.{Cell}
+use Rattle.xs_api.specs.declared.heap.TheConstants.{MOST_NAMES}
 use Rattle.xs_values.specs.declared.plain.Plain.{Plain}
 use Rattle.xs_api.specs.Heaps.{HeapHolds, Lowers, Sets}
 use Rattle.xs_api.specs.World.{Cells, cell_at, is_uncounted, live_of, living, lowered}
 
-abbrev one_of : Option Cell → ℕ
-one_of None = 0
-one_of (Some c) = 1
-
-living-front : (c : Option Cell) (cells : Cells) → living (c ∷ cells) ≡ one_of c + living cells
-living-front None cells = omega arith
-living-front (Some c) cells = omega arith
-
-living-le : (cells : Cells) → living cells ≤ length cells
-living-le [] = omega arith
-living-le (None ∷ cells) = omega (arith, living-le cells)
-living-le (Some c ∷ cells) = omega (arith, living-le cells)
-
-living-set : (cells : Cells) (n : ℕ) (v : Option Cell) → n < length cells → living (slice_set cells n v) + one_of (cell_at n cells) ≡ living cells + one_of v
-living-set [] n v h = absurd (omega (arith, h))
-living-set (c ∷ cells) zero v h = omega (arith, living-front c cells, living-front v cells)
-living-set (c ∷ cells) (suc n) v h = omega (arith, living-front c cells, living-front c (slice_set cells n v), living-set cells n v (omega (arith, h)))
+abbrev pub one_of : Option Cell → ℕ
+one_of c = cond (is_some c) 1 0
 
 living-drop-set : (cells : Cells) (k n : ℕ) (v : Option Cell) → k ≤ n → n < length cells → living (drop k (slice_set cells n v)) + one_of (cell_at n cells) ≡ living (drop k cells) + one_of v
-living-drop-set [] k n v le h = absurd (omega (arith, h))
-living-drop-set (c ∷ cells) zero n v le h = living-set (c ∷ cells) n v h
-living-drop-set (c ∷ cells) (suc k) zero v le h = absurd (omega (arith, le))
-living-drop-set (c ∷ cells) (suc k) (suc n) v le h = living-drop-set cells k n v (omega (arith, le)) (omega (arith, h))
-
-living-append : (cells : Cells) (v : Option Cell) → living (cells ++ v ∷ []) ≡ living cells + one_of v
-living-append [] None = refl
-living-append [] (Some c) = refl
-living-append (c ∷ cells) v = omega (arith, living-front c cells, living-front c (cells ++ v ∷ []), living-append cells v)
+living-drop-set cells k n v le h =
+    let at : n ≡ k + (n - k) = omega (arith, le) in
+    let moved : drop k (slice_set cells n v) ≡ slice_set (drop k cells) (n - k) v = ap (λ i. drop k (slice_set cells i v)) at ∙ drop-set-add k cells (n - k) v in
+    let here : cell_at n cells ≡ cell_at (n - k) (drop k cells) = ap (λ i. cell_at i cells) at ∙ sym (get_or-drop k cells (n - k) None) in
+    ap (λ l. living l + one_of (cell_at n cells)) moved
+    ∙ ap (λ c. living (slice_set (drop k cells) (n - k) v) + one_of c) here
+    ∙ sum_by-set one_of (drop k cells) (n - k) v None (omega (arith, le, h, length-drop k cells))
 
 living-drop-append : (cells : Cells) (k : ℕ) (v : Option Cell) → k ≤ length cells → living (drop k (cells ++ v ∷ [])) ≡ living (drop k cells) + one_of v
-living-drop-append cells zero v h = living-append cells v
-living-drop-append [] (suc k) v h = absurd (omega (arith, h))
-living-drop-append (c ∷ cells) (suc k) v h = living-drop-append cells k v (omega (arith, h))
+living-drop-append cells k v h = ap living (drop-append-le k cells (v ∷ []) h) ∙ sum_by_push one_of (drop k cells) v
 
 -- a scalar that is there has its place in the list
 pub cell_within : (cells : Cells) (n : ℕ) (c : Cell) → cell_at n cells ≡ Some c → n < length cells
@@ -48,19 +33,11 @@ cell_within [] n c e = cc
 cell_within (x ∷ cells) zero c e = omega arith
 cell_within (x ∷ cells) (suc n) c e = omega (arith, cell_within cells n c e)
 
-pub cell_past : (cells : Cells) (n : ℕ) → length cells ≤ n → cell_at n cells ≡ None
-cell_past [] n h = refl
-cell_past (x ∷ cells) zero h = absurd (omega (arith, h))
-cell_past (x ∷ cells) (suc n) h = cell_past cells n (omega (arith, h))
-
 set_elsewhere : (cells : Cells) (n : ℕ) (v : Option Cell) → cell_at 0 cells ≡ None → 0 < n → cell_at 0 (slice_set cells n v) ≡ None
-set_elsewhere [] n v e h = e
-set_elsewhere (c ∷ cells) zero v e h = absurd (omega (arith, h))
-set_elsewhere (c ∷ cells) (suc n) v e h = e
+set_elsewhere cells n v e h = get_or-set_other cells n 0 v None (λ same. omega (arith, same, h)) ∙ e
 
 kept_in_front : (cells : Cells) (v : Option Cell) → cell_at 0 cells ≡ None → 5 ≤ length cells → cell_at 0 (cells ++ v ∷ []) ≡ None
-kept_in_front [] v e h = absurd (omega (arith, h))
-kept_in_front (c ∷ cells) v e h = e
+kept_in_front cells v e h = get_or_append_left cells (v ∷ []) None 0 (omega (arith, h)) ∙ e
 
 -- a counted scalar has a name above the immortals
 counted_at : (n : ℕ) → is_uncounted n ≡ false → 0 < n → 5 ≤ n
@@ -80,10 +57,7 @@ low cells n c v k le e = omega (arith, living-drop-set cells k n (Some v) le (ce
 
 -- below the counted names nothing is counted
 living-low-set : (cells : Cells) (k n : ℕ) (v : Option Cell) → n < k → living (drop k (slice_set cells n v)) ≡ living (drop k cells)
-living-low-set cells zero n v h = absurd (omega (arith, h))
-living-low-set [] (suc k) n v h = refl
-living-low-set (c ∷ cells) (suc k) zero v h = refl
-living-low-set (c ∷ cells) (suc k) (suc n) v h = living-low-set cells k n v (omega (arith, h))
+living-low-set cells k n v h = ap living (drop-set-lt k cells n v h)
 
 same_living : (cells : Cells) (n : ℕ) (c v : Cell) → cell_at n cells ≡ Some c → live_of (slice_set cells n (Some v)) ≡ live_of cells
 same_living cells n c v e =
@@ -116,9 +90,9 @@ holds_gone cells live n c h e u =
     )
 
 -- a new scalar
-pub holds_made : (cells : Cells) (live : ℕ) (c : Cell) → HeapHolds cells live → length cells < 4000005 → (live < 4000005) × HeapHolds (cells ++ Some c ∷ []) (live + 1)
+pub holds_made : (cells : Cells) (live : ℕ) (c : Cell) → HeapHolds cells live → length cells < MOST_NAMES → (live < MOST_NAMES) × HeapHolds (cells ++ Some c ∷ []) (live + 1)
 holds_made cells live c h less = (
-  omega (arith, less, h.counted, living-le (drop 5 cells), length-drop 5 cells),
+  omega (arith, less, h.counted, count_by-le-length is_some (drop 5 cells), length-drop 5 cells),
   record {
     none = kept_in_front cells (Some c) h.none h.long;
     long = omega (arith, h.long, length-append cells (Some c ∷ []));
@@ -132,12 +106,6 @@ pub lowered_kept : (k j : ℕ) (p : Plain) → 2 ≤ k → j ≡ k - 1 → lower
 lowered_kept zero j p h e = absurd (omega (arith, h))
 lowered_kept (suc zero) j p h e = absurd (omega (arith, h))
 lowered_kept (suc (suc k)) j p h e = let same : suc k ≡ j = omega (arith, e) in ap (λ n. Some (record { value = p; count = n })) same
-
--- one owner
-pub lowered_gone : (k : ℕ) (p : Plain) → k < 2 → lowered k p ≡ None
-lowered_gone zero p h = refl
-lowered_gone (suc zero) p h = refl
-lowered_gone (suc (suc k)) p h = absurd (omega (arith, h))
 
 -- a value that is set, or nothing
 pub holds_set : (old new : Cells) (live n : ℕ) (p : Plain) (b : Bool) → HeapHolds old live → Sets n p old b new → HeapHolds new live

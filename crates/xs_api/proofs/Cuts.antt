@@ -2,9 +2,10 @@
 use Rattle.std.proofs.Common.{◌≡◌, ℕ, ◌-◌, List, ◌++◌, length, take, drop, reverse, sym, ap, ◌∙◌, arith, length-drop}
 use Rattle.std.proofs.Math.Seq.{drop-append_seam}
 use Rattle.std.proofs.lemmas.List.{reverse-append, length-reverse, take-append-drop}
+use Rattle.xs_api.specs.World.{cut_stack}
 
 -- the lowest items
-pub cut-reverse : {T : Type 0} (xs : List T) (h : ℕ) → reverse (take h xs) ≡ drop (length (reverse xs) - h) (reverse xs)
+pub cut-reverse : {T : Type 0} (xs : List T) (h : ℕ) → reverse (take h xs) ≡ cut_stack h (reverse xs)
 cut-reverse xs h =
     let low = reverse (take h xs) in
     let top = reverse (drop h xs) in

@@ -12,9 +12,10 @@ use Rattle.xs_api.specs.declared.api.Frame.{Frame}
 use Rattle.xs_api.specs.declared.api.Operand.{Operand}
 use Rattle.xs_api.specs.declared.api.Operand.TheVariants.{Num, Scalar, Void}
 use Rattle.xs_api.specs.declared.heap.Cell.{Cell}
+use Rattle.xs_api.specs.declared.stacks.TheConstants.{MOST_ITEMS}
 use Rattle.xs_ccheck.specs.Tree.{Row, Entry, StRead, SvIv, SvNewMortal, SvSetIv, StSet, XsReturn, XsReturnYes, XsEnd, CroakUsage, NewXs}
 use Rattle.xs_api.specs.Effects.{Effect, Gives, Ends, Prims}
-use Rattle.xs_api.specs.World.{World, cell_at, gone, is_read_only, may_make, sweep, with_cells, with_new, with_value}
+use Rattle.xs_api.specs.World.{World, cell_at, cut_args, gone, is_read_only, may_make, sweep, with_cells, with_new, with_temps, with_value}
 
 abbrev pub trapped : Trap → Frame → World → Effect World
 trapped t f w = Ends (Traps t) f w
@@ -33,12 +34,13 @@ needs (Some n) f w go = on_cell (cell_at n w.cells) n f w go
 abbrev pub sv_iv : Option ℕ → Frame → World → Effect World
 sv_iv s f w = needs s f w (λ n c. Gives (Num (record { kind = I64; value = iv_of c.value })) f w)
 
-abbrev pub with_temp : ℕ → World → World
-with_temp n w = record { cells = w.cells; args = w.args; top = w.top; marks = w.marks; temps = n ∷ w.temps; scopes = w.scopes; names = w.names }
+-- the world with a new scalar, which is a temporary
+abbrev pub with_mortal : Plain → World → World
+with_mortal p w = with_temps (length w.cells ∷ w.temps) (with_cells (with_new p w.cells) w)
 
 -- a new scalar with a value that is a temporary
 abbrev pub new_mortal : Plain → Frame → World → Effect World
-new_mortal p f w = cond (may_make w.cells) (Gives (Scalar (Some (length w.cells))) f (with_temp (length w.cells) (with_cells (with_new p w.cells) w))) (trapped trap.Large f w)
+new_mortal p f w = cond (may_make w.cells) (Gives (Scalar (Some (length w.cells))) f (with_mortal p w)) (trapped trap.Large f w)
 
 abbrev pub read_only_croak : List ℕ
 read_only_croak = codes "Modification of a read-only value attempted"
@@ -47,10 +49,6 @@ abbrev pub sv_setiv : Option ℕ → Number → Frame → World → Effect World
 sv_setiv s v f w = needs s f w (λ n c. cond (is_read_only n) (Ends (Croaks read_only_croak) f w) (Gives Void f (with_cells (with_value n c (plain.Int (wrapped_value I64 v.value)) w.cells) w)))
 
 -- ---- the argument list
-
--- how many items the argument list may have
-abbrev pub most_items : ℕ
-most_items = 1000000
 
 abbrev pub with_args : List ℕ → World → World
 with_args args w = record { cells = w.cells; args = args; top = w.top; marks = w.marks; temps = w.temps; scopes = w.scopes; names = w.names }
@@ -69,7 +67,7 @@ abbrev pub put_place : ℕ → ℕ → Frame → World → (World → Effect Wor
 put_place at n f w go =
     cond (nat_lt at (length w.args)) (go (with_args (slice_set w.args at n) w))
     (cond (nat_eq at (length w.args))
-    (cond (nat_lt at most_items) (go (with_args (w.args ++ n ∷ []) w)) (trapped trap.Large f w))
+    (cond (nat_lt at MOST_ITEMS) (go (with_args (w.args ++ n ∷ []) w)) (trapped trap.Large f w))
     (trapped trap.Bounds f w))
 
 abbrev pub st_write : ℤ → ℕ → Frame → World → Effect World
@@ -84,10 +82,6 @@ st_set s i f w = needs s f w (λ n c. st_write i n f w)
 abbrev pub pop_mark : List ℕ → Frame → World → Effect World
 pop_mark [] f w = trapped trap.Scope f w
 pop_mark (mark ∷ marks) f w = Gives Void (record { called = f.called; base = mark; items = w.top - mark }) (record { cells = w.cells; args = w.args; top = w.top; marks = marks; temps = w.temps; scopes = w.scopes; names = w.names })
-
--- the list cut to a new top
-abbrev pub cut_args : ℕ → World → World
-cut_args top w = record { cells = w.cells; args = take top w.args; top = top; marks = w.marks; temps = w.temps; scopes = w.scopes; names = w.names }
 
 -- returns what stands from the base up to a top
 abbrev pub returned_to : ℕ → Frame → World → Effect World

@@ -1,5 +1,8 @@
 -- What the rows work on: counted scalars, Perl's stacks, and the registered names.
-use Rattle.std.specs.Prelude.{ℕ, zero, suc, ◌-◌, pos, Bool, cond, ◌&&◌, nat_le, nat_lt, List, [], ◌∷◌, ◌++◌, length, take, drop, Option, Some, None, slice_index_or, slice_set}
+use Rattle.std.specs.Prelude.{ℕ, zero, suc, ◌-◌, pos, Bool, cond, ◌&&◌, nat_le, nat_lt, List, [], ◌∷◌, ◌++◌, length, take, drop, map, Option, Some, None, slice_index_or, slice_set}
+use Rattle.std.specs.List.{count_by}
+use Rattle.std.specs.Map.{lookup}
+use Rattle.std.specs.Option.{is_some}
 use Rattle.std.specs.Str.{bytes_eq}
 use Rattle.xs_values.specs.declared.plain.Plain.{Plain}
 use Rattle.xs_values.specs.declared.plain.Plain.TheVariants as plain
@@ -7,6 +10,7 @@ use Rattle.xs_values.specs.declared.trap.Trap.{Trap}
 use Rattle.xs_values.specs.declared.trap.Trap.TheVariants as trap
 use Rattle.xs_api.specs.declared.api.Registered.{Registered}
 use Rattle.xs_api.specs.declared.heap.Cell.{Cell}
+use Rattle.xs_api.specs.declared.heap.TheConstants.{MOST_NAMES}
 use Rattle.xs_api.specs.declared.stacks.Depths.{Depths}
 
 -- Scalars by their names, None where one is gone. The next name is the length, and no name is given twice.
@@ -46,9 +50,9 @@ cell_at n cells = slice_index_or cells n None
 abbrev pub gone : ℕ → Cells → Trap
 gone n cells = trap.Gone n (length cells)
 
--- how many scalars one run may make
+-- whether one more scalar may be made
 abbrev pub may_make : Cells → Bool
-may_make cells = nat_lt (length cells) 4000005
+may_make cells = nat_lt (length cells) MOST_NAMES
 
 -- a new scalar with one owner, whose name is the next
 abbrev pub with_new : Plain → Cells → Cells
@@ -67,9 +71,7 @@ abbrev pub with_lowered : ℕ → Cell → Cells → Cells
 with_lowered n c cells = slice_set cells n (lowered c.count c.value)
 
 abbrev pub living : Cells → ℕ
-living [] = 0
-living (None ∷ cells) = living cells
-living (Some c ∷ cells) = suc (living cells)
+living cells = count_by is_some cells
 
 -- how many scalars are counted
 abbrev pub live_of : Cells → ℕ
@@ -115,12 +117,16 @@ abbrev pub depths_of : World → Depths
 depths_of w = record { args = w.top; marks = length w.marks; temps = length w.temps; scopes = length w.scopes }
 
 -- a stack, whose newest item comes first, cut to a height
-abbrev pub cut_stack : ℕ → List ℕ → List ℕ
+abbrev pub cut_stack : {T : Type 0} → ℕ → List T → List T
 cut_stack height items = drop (length items - height) items
+
+-- the argument list cut to a new top
+abbrev pub cut_args : ℕ → World → World
+cut_args top w = record { cells = w.cells; args = take top w.args; top = top; marks = w.marks; temps = w.temps; scopes = w.scopes; names = w.names }
 
 -- the argument list, the marks and the scopes cut to these heights
 abbrev pub cut_stacks : Depths → World → World
-cut_stacks d w = record { cells = w.cells; args = take d.args w.args; top = d.args; marks = cut_stack d.marks w.marks; temps = w.temps; scopes = cut_stack d.scopes w.scopes; names = w.names }
+cut_stacks d w = record (cut_args d.args w) { marks = cut_stack d.marks w.marks; scopes = cut_stack d.scopes w.scopes }
 
 -- Frees the temporaries above a height, and then cuts all stacks.
 abbrev pub sweep : Depths → World → Swept World
@@ -130,5 +136,4 @@ sweep d w = then_swept (free_above d.temps w) (λ after. Clean (cut_stacks d aft
 
 -- the number of the function that a name is registered for last
 abbrev pub registered : List ℕ → List Registered → Option ℕ
-registered name [] = None
-registered name (r ∷ all) = cond (bytes_eq r.name name) (Some r.function) (registered name all)
+registered name all = lookup (λ n. bytes_eq n name) (map (λ r. (r.name, r.function)) all)

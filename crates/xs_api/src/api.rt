@@ -8,14 +8,11 @@ ghost use Rattle.xs_api.specs.World as world;
 ghost use Rattle.xs_api.specs.World.{free_above};
 
 use crate::heap::{Heap, HeapFail};
-use crate::stacks::{Depths, Stacks, pop_top, push_top};
+use crate::stacks::{Depths, MOST_ITEMS, Stacks, pop_top, push_top};
 use std::alloc::Global;
 use xs_base::{Bytes, Items, Memory};
 use xs_ccheck::{RowNode, Typed};
 use xs_values::{CInt, Kind, Name, Plain, Trap, to_iv, wrap};
-
-/// How many items the argument list may have.
-pub const MOST_ITEMS: usize = 1_000_000;
 
 /// The name of yes.
 const YES: Name = 2;
@@ -77,7 +74,7 @@ impl From<Stop> for Halt {
 
     fn from(stop: Stop) -> Halt {
         match stop {
-            Stop::Trap(trap) => Halt::Way(Abrupt::Traps(trap)),
+            Stop::Trap(trap) => Halt::from(trap),
             Stop::Memory => Halt::Memory,
         }
     }
@@ -132,7 +129,7 @@ pub struct Perl {
 fn trapped(trap: Trap) -> Result<Operand, Halt>
     ensures { result ≡ Err (Halt.Way (Abrupt.Traps trap)) }
 {
-    Err(Halt::Way(Abrupt::Traps(trap)))
+    Err(Halt::from(trap))
 }
 
 impl Perl {
@@ -159,8 +156,8 @@ impl Perl {
         }
     }
 
-    /// `SvIV`: the number of a scalar as an IV.
-    pub fn sv_iv(&self, s: Option<Name>, frame: &Frame) -> Result<Operand, Halt>
+    // `SvIV`: the number of a scalar as an IV.
+    fn sv_iv(&self, s: Option<Name>, frame: &Frame) -> Result<Operand, Halt>
         ensures { Does (rows.sv_iv s frame.now (world_of self.now)) result frame.now (world_of self.now) }
     {
         let (_, value) = self.needed(s)?;
@@ -181,16 +178,16 @@ impl Perl {
         }
     }
 
-    /// A new scalar that is a temporary: `sv_newmortal` where the value is undef.
-    pub fn new_mortal(&mut self, value: Plain, frame: &Frame) -> Result<Operand, Halt>
+    // A new scalar that is a temporary: `sv_newmortal` where the value is undef.
+    fn new_mortal(&mut self, value: Plain, frame: &Frame) -> Result<Operand, Halt>
         ensures { Does (rows.new_mortal value frame.now (world_of self.old)) result frame.now (world_of self.new) }
     {
         let n = self.make_temporary(value)?;
         Ok(Operand::Scalar(Some(n)))
     }
 
-    /// `sv_setiv`: sets a scalar to a number.
-    pub fn sv_setiv(&mut self, s: Option<Name>, v: CInt, frame: &Frame) -> Result<Operand, Halt>
+    // `sv_setiv`: sets a scalar to a number.
+    fn sv_setiv(&mut self, s: Option<Name>, v: CInt, frame: &Frame) -> Result<Operand, Halt>
         ensures { Does (rows.sv_setiv s v frame.now (world_of self.old)) result frame.now (world_of self.new) }
     {
         let (n, _) = self.needed(s)?;
@@ -208,8 +205,8 @@ impl Perl {
         Ok(Operand::Void)
     }
 
-    /// `ST(i)`: the item at a place counted from the base.
-    pub fn st_read(&self, i: CInt, frame: &Frame) -> Result<Operand, Halt>
+    // `ST(i)`: the item at a place counted from the base.
+    fn st_read(&self, i: CInt, frame: &Frame) -> Result<Operand, Halt>
         ensures { Does (rows.st_read i.value frame.now (world_of self.now)) result frame.now (world_of self.now) }
     {
         let Some(at) = place(frame.base, i.value(), self.stacks.args.len()) else {
@@ -221,8 +218,8 @@ impl Perl {
         }
     }
 
-    /// `ST(i) = s`: writes a scalar at a place counted from the base. One past the list it appends.
-    pub fn st_set(&mut self, s: Option<Name>, i: CInt, frame: &Frame) -> Result<Operand, Halt>
+    // `ST(i) = s`: writes a scalar at a place counted from the base. One past the list it appends.
+    fn st_set(&mut self, s: Option<Name>, i: CInt, frame: &Frame) -> Result<Operand, Halt>
         ensures { Does (rows.st_set s i.value frame.now (world_of self.old)) result frame.now (world_of self.new) }
     {
         let (n, _) = self.needed(s)?;
@@ -233,8 +230,8 @@ impl Perl {
         Ok(Operand::Scalar(Some(n)))
     }
 
-    /// `dXSARGS`: takes the mark, which is the base.
-    pub fn entry(&mut self, frame: &mut Frame) -> Result<Operand, Halt>
+    // `dXSARGS`: takes the mark, which is the base.
+    fn entry(&mut self, frame: &mut Frame) -> Result<Operand, Halt>
         ensures { Does (rows.pop_mark (world_of self.old).marks frame.old (world_of self.old)) result frame.new (world_of self.new) }
     {
         match pop_top(&mut self.stacks.marks) {
@@ -257,13 +254,12 @@ impl Perl {
             frame.base as usize,
             top as usize,
         )?;
-        self.stacks.args.truncate(top as usize);
-        self.stacks.top = top;
+        self.stacks.cut_args(top);
         Err(Halt::Way(Abrupt::Returns(items)))
     }
 
-    /// `XSRETURN(n)`: returns the first items from the base.
-    pub fn xsreturn(&mut self, n: CInt, frame: &Frame) -> Result<Operand, Halt>
+    // `XSRETURN(n)`: returns the first items from the base.
+    fn xsreturn(&mut self, n: CInt, frame: &Frame) -> Result<Operand, Halt>
         ensures { Does (rows.xsreturn n.value frame.now (world_of self.old)) result frame.now (world_of self.new) }
     {
         match place(frame.base, n.value(), self.stacks.args.len()) {
@@ -272,8 +268,8 @@ impl Perl {
         }
     }
 
-    /// `XSRETURN_YES`: returns the immortal yes.
-    pub fn xsreturn_yes(&mut self, frame: &Frame) -> Result<Operand, Halt>
+    // `XSRETURN_YES`: returns the immortal yes.
+    fn xsreturn_yes(&mut self, frame: &Frame) -> Result<Operand, Halt>
         ensures { Does (rows.return_one rows.yes frame.now (world_of self.old)) result frame.now (world_of self.new) }
     {
         put_item(&mut self.stacks.args, frame.base as usize, YES)?;
@@ -287,8 +283,8 @@ impl Perl {
         self.return_to(self.stacks.top, frame)
     }
 
-    /// `newXS_deffile`: registers a function under a Perl name.
-    pub fn register(&mut self, name: &[u8], function: u32, frame: &Frame) -> Result<Operand, Halt>
+    // `newXS_deffile`: registers a function under a Perl name.
+    fn register(&mut self, name: &[u8], function: u32, frame: &Frame) -> Result<Operand, Halt>
         ensures { Does (rows.register name.now function frame.now (world_of self.old)) result frame.now (world_of self.new) }
     {
         let name = Bytes::from_slice(self.alloc, name)?;
@@ -319,9 +315,7 @@ impl Perl {
             let Some(n) = pop_top(&mut self.stacks.temps) else {
                 return Ok(());
             };
-            if let Err(trap) = self.lower(n) {
-                return Err(trap);
-            }
+            self.lower(n)?;
         }
         Ok(())
     }
@@ -431,8 +425,8 @@ fn items_between(
     Ok(Items::from_vec(items))
 }
 
-/// The text of `croak_xs_usage`.
-pub fn usage_text(alloc: Global, called: &Bytes, params: &[u8]) -> Result<Bytes, Memory>
+// The text of `croak_xs_usage`.
+fn usage_text(alloc: Global, called: &Bytes, params: &[u8]) -> Result<Bytes, Memory>
     ensures { IfOk result (λ text. text ≡ rows.usage_text called.now params.now) }
 {
     let mut text = Bytes::from_slice(alloc, b"Usage: ")?;

@@ -5,6 +5,6 @@ mod api;
 mod heap;
 mod stacks;
 
-pub use api::{Abrupt, Frame, Halt, MOST_ITEMS, Operand, Perl, Registered, Stop};
+pub use api::{Abrupt, Frame, Halt, Operand, Perl, Registered, Stop};
 pub use heap::{Cell, Heap, HeapFail};
-pub use stacks::{Depths, Stacks, pop_top, push_top};
+pub use stacks::{Depths, MOST_ITEMS, Stacks, pop_top, push_top};

@@ -1,9 +1,14 @@
 //! Perl's stacks: arguments, marks, temporaries and scopes.
-ghost use Rattle.std.specs.Prelude.{◌≡◌, ◌+◌, ◌++◌, ◌-◌, ◌≤◌, ◌∷◌, [], MatchOption, OnOk, drop, length, reverse, take, vec_len};
+ghost use Rattle.std.specs.Prelude.{◌≡◌, ◌+◌, ◌++◌, ◌≤◌, ◌∷◌, [], MatchOption, OnOk, length, reverse, take, vec_len};
+ghost use Rattle.xs_api.specs.declared.stacks.TheConstants.{MOST_ITEMS};
+ghost use Rattle.xs_api.specs.World.{cut_stack};
 
 use std::alloc::Global;
 use xs_base::Memory;
 use xs_values::Name;
+
+/// How many items the argument list may have.
+pub const MOST_ITEMS: usize = 1_000_000;
 
 /// How high the stacks are.
 #[derive(Clone, Copy, Debug, PartialEq, Eq)]
@@ -25,12 +30,10 @@ pub struct Stacks {
     pub temps: Vec<Name>,
     /// Each open scope with the number of temporaries that it keeps.
     pub scopes: Vec<u64>,
-    ghost short: { length args.items ≤ 1000000 },
+    ghost short: { length args.items ≤ MOST_ITEMS },
 }
 
 impl Stacks {
-    ghost use Rattle.xs_api.specs.World.{cut_stack};
-
     /// Empty stacks. This takes no memory.
     pub fn new(alloc: Global) -> Stacks
         ensures args { result.args.items ≡ [] }
@@ -48,6 +51,7 @@ impl Stacks {
         }
     }
 
+    /// How high the stacks are.
     pub fn depths(&self) -> Depths
         ensures { result ≡ record { args = self.now.top; marks = vec_len self.now.marks; temps = vec_len self.now.temps; scopes = vec_len self.now.scopes } }
     {
@@ -61,7 +65,7 @@ impl Stacks {
 
     /// Pushes a mark, and arguments above it. The list is cut to the top first.
     pub fn push_call(&mut self, args: &[Name]) -> Result<(), Memory>
-        requires { self.old.top + length args.now ≤ 1000000 }
+        requires { self.old.top + length args.now ≤ MOST_ITEMS }
         ensures args { OnOk result (self.new.args.items ≡ take self.old.top self.old.args.items ++ args.now) }
         ensures top { OnOk result (self.new.top ≡ self.old.top + length args.now) }
         ensures marks { OnOk result (reverse self.new.marks.items ≡ self.old.top ∷ reverse self.old.marks.items) }
@@ -75,6 +79,18 @@ impl Stacks {
         Ok(())
     }
 
+    /// Cuts the argument list to a new top.
+    pub fn cut_args(&mut self, top: u32)
+        ensures args { self.new.args.items ≡ take top self.old.args.items }
+        ensures top { self.new.top ≡ top }
+        ensures marks { self.new.marks ≡ self.old.marks }
+        ensures temps { self.new.temps ≡ self.old.temps }
+        ensures scopes { self.new.scopes ≡ self.old.scopes }
+    {
+        self.args.truncate(top as usize);
+        self.top = top;
+    }
+
     /// Cuts the argument list, the marks and the scopes.
     pub fn cut_to(&mut self, d: &Depths)
         ensures args { self.new.args.items ≡ take d.now.args self.old.args.items }
@@ -83,8 +99,7 @@ impl Stacks {
         ensures temps { self.new.temps ≡ self.old.temps }
         ensures scopes { reverse self.new.scopes.items ≡ cut_stack d.now.scopes (reverse self.old.scopes.items) }
     {
-        self.args.truncate(d.args as usize);
-        self.top = d.args;
+        self.cut_args(d.args);
         cut_top(&mut self.marks, d.marks);
         cut_top(&mut self.scopes, d.scopes);
     }
@@ -92,7 +107,7 @@ impl Stacks {
 
 // Cuts a stack to a height.
 fn cut_top<T: Drop>(stack: &mut Vec<T>, height: u64)
-    ensures { reverse stack.new.items ≡ drop (length (reverse stack.old.items) - height) (reverse stack.old.items) }
+    ensures { reverse stack.new.items ≡ cut_stack height (reverse stack.old.items) }
 {
     stack.truncate(height as usize);
 }

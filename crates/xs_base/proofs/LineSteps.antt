@@ -5,6 +5,8 @@ use Rattle.xs_base.specs.declared.place.Line.{Line}
 use Rattle.xs_base.specs.Lines.{numbered}
 use Rattle.std.specs.Str.Lines.{lines, lines_of_parts, strip_carriage_return}
 use Rattle.std.proofs.lemmas.List.Splits.{slice_split_first}
+use Rattle.std.proofs.lemmas.Option.{cond_some}
+use Rattle.xs_base.proofs.Choices.{none_unless}
 
 abbrev pub is_end : ℕ → Bool
 is_end = λ b. b == 10
@@ -24,21 +26,13 @@ first_part (x ∷ xs) = elim (is_end x) as (λ b. HasFirst (cond b ([] ∷ slice
   | false ↦ onto_first_has x (slice_split is_end xs)
 ]
 
-place : (b : Bool) (m n : ℕ) → cond b (Some m) None ≡ Some n → (b ≡ true) × (m ≡ n)
-place true m n h = (refl, cc)
-place false m n h = absurd cc
-
-no_place : (b : Bool) (m : ℕ) → cond b (Some m) None ≡ None → b ≡ false
-no_place true m h = absurd cc
-no_place false m h = refl
-
 lines_step : (x : List ℕ) (parts : List (List ℕ)) → HasFirst parts → lines_of_parts (x ∷ parts) ≡ strip_carriage_return x ∷ lines_of_parts parts
 lines_step x parts h = rw h.1.1 refl
 
 -- a line that ends at byte 10
 pub lines_first : (xs : List ℕ) (n : ℕ) → position is_end xs ≡ Some n → lines xs ≡ strip_carriage_return (take n xs) ∷ lines (drop (n + 1) xs)
 lines_first xs n h =
-    let p = place (nat_lt (position_or_len is_end xs) (length xs)) (position_or_len is_end xs) n h in
+    let p = cond_some (nat_lt (position_or_len is_end xs) (length xs)) (position_or_len is_end xs) n h in
     let lt : position_or_len is_end xs < length xs = grind (arith, p.0) in
     let split : slice_split is_end xs ≡ take n xs ∷ slice_split is_end (drop (n + 1) xs) =
     slice_split_first is_end xs 0 lt ∙ ap (λ k. take k xs ∷ slice_split is_end (drop (k + 1) xs)) p.1 in
@@ -57,7 +51,7 @@ unsplit (x ∷ xs) h = unsplit_on (is_end x) x xs h (unsplit xs)
 -- what stands behind the last byte 10
 pub lines_last : (xs : List ℕ) → position is_end xs ≡ None → lines xs ≡ cond (length xs == 0) [] (xs ∷ [])
 lines_last xs h =
-    let p = no_place (nat_lt (position_or_len is_end xs) (length xs)) (position_or_len is_end xs) h in
+    let p = (none_unless (nat_lt (position_or_len is_end xs) (length xs)) (position_or_len is_end xs) None h).0 in
     ap lines_of_parts (unsplit xs (grind (arith, p)))
 
 -- a line more

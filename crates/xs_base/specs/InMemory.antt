@@ -1,7 +1,8 @@
 -- The desk and the sink in memory: what they hold, and what each call of them answers.
-use Rattle.std.specs.Prelude.{ℕ, ◌+◌, ◌-◌, ◌^◌, min, Bool, ◌==◌, ◌||◌, List, [], ◌∷◌, ◌++◌, length, take, if◌then◌else◌, Option, None, Some, Result, Ok, Err}
+use Rattle.std.specs.Prelude.{ℕ, ◌+◌, ◌-◌, ◌^◌, min, Bool, false, ◌==◌, ◌||◌, List, [], ◌∷◌, ◌++◌, length, take, if◌then◌else◌, Option, None, Some, Result, Ok, Err}
 use Rattle.std.specs.List.{list_any}
 use Rattle.std.specs.Str.{bytes_eq}
+use Rattle.xs_base.specs.Causes.{counted}
 use Rattle.xs_base.specs.Desks.{told_read}
 use Rattle.xs_base.specs.declared.desk.DeskFault.{DeskFault}
 use Rattle.xs_base.specs.declared.desk.DeskFault.TheVariants.{Failed}
@@ -9,56 +10,77 @@ use Rattle.xs_base.specs.declared.mem_desk.HeldFile.{HeldFile}
 use Rattle.xs_base.specs.declared.sink.SinkFault.{SinkFault}
 use Rattle.xs_base.specs.declared.sink.SinkFault.TheVariants as write
 
--- one more, where a u64 holds it
-abbrev pub counted : ℕ → ℕ
-counted n = min (n + 1) (2 ^ 64 - 1)
+-- ---- calls that fail
 
--- A desk in memory: its files with the newest first, the calls at which a read fails, and how many calls were made and failed.
-pub record MemFiles : Type 0 where
-  pub held_files : List HeldFile
+-- The calls at which an edge in memory fails, and how many calls were made and failed.
+pub record Failures : Type 0 where
   pub failing : List ℕ
   pub calls : ℕ
   pub failed : ℕ
+
+-- no call was made, and none is to fail
+abbrev pub no_failures : Failures
+no_failures = record { failing = []; calls = 0; failed = 0 }
+
+-- a further call is to fail
+abbrev pub failing_at : ℕ → Failures → Failures
+failing_at call f = record f { failing = f.failing ++ call ∷ [] }
+
+-- whether a call is listed
+abbrev pub is_listed : List ℕ → ℕ → Bool
+is_listed calls call = list_any (λ c. c == call) calls
+
+-- whether the next call fails: it is listed, or nothing more can be taken
+abbrev pub call_fails : Failures → Bool → Bool
+call_fails f is_full = is_listed f.failing (counted f.calls) || is_full
+
+-- what is counted after that call
+abbrev pub after_call : Failures → Bool → Failures
+after_call f is_full = record f { calls = counted f.calls; failed = if call_fails f is_full then counted f.failed else f.failed }
+
+-- ---- the desk
+
+-- A desk in memory: its files with the newest first, and which reads fail.
+pub record MemFiles : Type 0 where
+  pub held_files : List HeldFile
+  pub failures : Failures
 
 -- the bytes of the file of a name
 abbrev pub held : List HeldFile → List ℕ → Option (List ℕ)
 held [] name = None
 held (file ∷ files) name = if bytes_eq file.name name then Some file.bytes else held files name
 
--- A sink in memory: what it has taken, how many bytes it takes in a write and in all, the calls at which a write fails, and
--- how many calls were made and failed.
+-- what a read of at most limit bytes answers, where memory is found
+abbrev pub mem_read : MemFiles → List ℕ → ℕ → Result (List ℕ) DeskFault
+mem_read d name limit = if call_fails d.failures false then Err Failed else told_read (held d.held_files name) limit
+
+-- the desk after a read
+abbrev pub after_read : MemFiles → MemFiles
+after_read d = record d { failures = after_call d.failures false }
+
+-- ---- the sink
+
+-- A sink in memory: what it has taken, how many bytes it takes in a write and in all, and which writes fail.
 pub record MemBytes : Type 0 where
   pub taken : List ℕ
   pub per_write : ℕ
   pub room : ℕ
-  pub failing : List ℕ
-  pub calls : ℕ
-  pub failed : ℕ
+  pub failures : Failures
 
--- whether a call is listed
-abbrev pub is_listed : List ℕ → ℕ → Bool
-is_listed calls call = list_any (λ c. c == call) calls
-
--- what a read of at most limit bytes answers, where memory is found
-abbrev pub mem_read : MemFiles → List ℕ → ℕ → Result (List ℕ) DeskFault
-mem_read d name limit = if is_listed d.failing (counted d.calls) then Err Failed else told_read (held d.held_files name) limit
-
--- the desk after a read
-abbrev pub after_read : MemFiles → MemFiles
-after_read d = record d { calls = counted d.calls; failed = if is_listed d.failing (counted d.calls) then counted d.failed else d.failed }
-
--- whether a write fails
-abbrev pub write_fails : MemBytes → Bool
-write_fails s = is_listed s.failing (counted s.calls) || (s.room - length s.taken == 0)
+-- whether nothing more can be taken
+abbrev pub is_full : MemBytes → Bool
+is_full s = s.room - length s.taken == 0
 
 -- how many bytes of a piece a write takes
 abbrev pub taken_of : MemBytes → List ℕ → ℕ
 taken_of s piece = min (min s.per_write (length piece)) (s.room - length s.taken)
 
 abbrev pub mem_write : MemBytes → List ℕ → Result ℕ SinkFault
-mem_write s piece = if write_fails s then Err write.Failed else Ok (taken_of s piece)
+mem_write s piece = if call_fails s.failures (is_full s) then Err write.Failed else Ok (taken_of s piece)
 
 abbrev pub after_write : MemBytes → List ℕ → MemBytes
 after_write s piece =
-    if write_fails s then record s { calls = counted s.calls; failed = counted s.failed }
-    else record s { calls = counted s.calls; taken = s.taken ++ take (taken_of s piece) piece }
+    record s {
+      failures = after_call s.failures (is_full s);
+      taken = if call_fails s.failures (is_full s) then s.taken else s.taken ++ take (taken_of s piece) piece;
+    }

@@ -1,6 +1,6 @@
 -- The bytes of words, digits and blanks, and what stands in front of a text.
 use Rattle.std.specs.List.{list_all}
-use Rattle.std.specs.Prelude.{ℕ, ◌+◌, ◌*◌, ◌-◌, fold, Bool, true, false, ◌&&◌, ◌||◌, ◌==◌, if◌then◌else◌, nat_le, List, [], ◌∷◌, Option, None, Some, option_and_then}
+use Rattle.std.specs.Prelude.{not, ℕ, ◌+◌, ◌*◌, ◌-◌, fold, Bool, false, ◌&&◌, ◌||◌, ◌==◌, if◌then◌else◌, nat_le, List, [], ◌∷◌, Option, None, Some, is_some, option_and_then}
 
 -- a space or a tab
 abbrev pub is_blank : ℕ → Bool
@@ -27,6 +27,15 @@ abbrev pub is_identifier : List ℕ → Bool
 is_identifier [] = false
 is_identifier (b ∷ bs) = begins_word b && list_all is_word_byte bs
 
+-- a `0` with other bytes behind it
+abbrev pub has_leading_zero : List ℕ → Bool
+has_leading_zero (a ∷ b ∷ bs) = a == 48
+has_leading_zero _ = false
+
+-- decimal digits without a zero in front of others
+abbrev pub is_decimal : List ℕ → Bool
+is_decimal word = list_all is_digit word && not (has_leading_zero word)
+
 -- a text of blanks alone
 abbrev pub is_blank_line : List ℕ → Bool
 is_blank_line text = list_all is_blank text
@@ -40,6 +49,10 @@ after_byte w (b ∷ bs) = if b == w then Some bs else None
 abbrev pub after_word : List ℕ → List ℕ → Option (List ℕ)
 after_word [] text = Some text
 after_word (w ∷ ws) text = option_and_then (after_word ws) (after_byte w text)
+
+-- The text begins with a word.
+abbrev pub begins_with : List ℕ → List ℕ → Bool
+begins_with word text = is_some (after_word word text)
 
 -- the value of decimal digits
 abbrev pub value_of_digits : List ℕ → ℕ

@@ -1,7 +1,7 @@
 //! Owned bytes.
 ghost use Rattle.std.specs.Cmp.Lexicographic.{nat_list_eq_equiv};
 ghost use Rattle.std.specs.Cmp.{partial_equiv_from_equiv};
-ghost use Rattle.std.specs.Prelude.{◌≡◌, ◌↔◌, [], ◌++◌, IfOk, IsTrue, OnErr, OnOk, length};
+ghost use Rattle.std.specs.Prelude.{◌≡◌, ◌↔◌, [], ◌++◌, IfOk, IsTrue, OnErr, OnOk, decimal, length};
 ghost use Rattle.std.specs.Str.{bytes_eq};
 
 use crate::Memory;
@@ -47,18 +47,21 @@ impl Bytes {
         Bytes::from_slice(alloc, self.as_slice())
     }
 
+    /// The bytes, borrowed.
     pub fn as_slice(&self) -> &[u8]
         ensures { result.now ≡ self.now }
     {
         self.bytes.as_slice()
     }
 
+    /// How many bytes there are.
     pub fn len(&self) -> usize
         ensures { result ≡ length self.now }
     {
         self.bytes.len()
     }
 
+    /// Whether there is no byte.
     pub fn is_empty(&self) -> bool
         ensures { IsTrue result ↔ (self.now ≡ []) }
     {
@@ -72,6 +75,15 @@ impl Bytes {
     {
         self.bytes.extend_from_slice(s)?;
         Ok(())
+    }
+
+    /// Adds the decimal digits of a number at the end.
+    pub fn append_number(&mut self, alloc: Global, n: u64) -> Result<(), Memory>
+        ensures ok { OnOk result (self.new ≡ self.old ++ decimal n) }
+        ensures err { OnErr result (self.new ≡ self.old) }
+    {
+        let digits = n.to_string(alloc)?;
+        self.append(digits.as_bytes())
     }
 }
 

@@ -17,6 +17,7 @@ pub struct HostDesk<'r, R: Files> {
 }
 
 impl<'r, R: Files> HostDesk<'r, R> {
+    /// The files of the system, read by the runtime; no read has failed yet.
     pub fn new(rt: &'r R, alloc: Global) -> HostDesk<'r, R> {
         HostDesk {
             rt,
@@ -89,6 +90,7 @@ pub struct HostSink<W: Write + Drop> {
 }
 
 impl<W: Write + Drop> HostSink<W> {
+    /// A sink over a writer of the system; no write has failed yet.
     pub fn new(writer: W) -> HostSink<W> {
         HostSink { writer, failed: 0 }
     }

@@ -1,6 +1,6 @@
 //! The small list type of public fields and results.
 ghost use Rattle.std.specs.Option.{option_copied};
-ghost use Rattle.std.specs.Prelude.{◌≡◌, ◌↔◌, [], ◌∷◌, ◌++◌, IsTrue, OnErr, OnOk, length, slice_get};
+ghost use Rattle.std.specs.Prelude.{◌≡◌, ◌↔◌, [], ◌∷◌, ◌++◌, IfOk, IsTrue, OnErr, OnOk, length, slice_get};
 
 use crate::Memory;
 use std::alloc::Global;
@@ -33,12 +33,14 @@ impl<T> Items<T> {
         }
     }
 
+    /// The elements of a vector.
     pub fn from_vec(items: Vec<T>) -> Items<T>
         ensures { result ≡ items.items }
     {
         Items { items }
     }
 
+    /// The vector of the elements.
     pub fn into_vec(self) -> Vec<T>
         ensures { result.items ≡ self }
     {
@@ -46,18 +48,21 @@ impl<T> Items<T> {
         items
     }
 
+    /// The elements, borrowed.
     pub fn as_slice(&self) -> &[T]
         ensures { result.now ≡ self.now }
     {
         self.items.as_slice()
     }
 
+    /// How many elements there are.
     pub fn len(&self) -> usize
         ensures { result ≡ length self.now }
     {
         self.items.len()
     }
 
+    /// Whether there is no element.
     pub fn is_empty(&self) -> bool
         ensures { IsTrue result ↔ (self.now ≡ []) }
     {
@@ -81,4 +86,22 @@ impl<T: Drop> Items<T> {
         self.items.push(item)?;
         Ok(())
     }
+}
+
+/// Adds an element at the end of a vector.
+pub fn add<T: Drop>(list: &mut Vec<T>, item: T) -> Result<(), Memory>
+    ensures ok { OnOk result (list.new.items ≡ list.old.items ++ item ∷ []) }
+    ensures err { OnErr result (list.new.items ≡ list.old.items) }
+{
+    list.push(item)?;
+    Ok(())
+}
+
+/// A vector with an element more at the end.
+pub fn with_more<T: Drop>(list: Vec<T>, item: T) -> Result<Vec<T>, Memory>
+    ensures { IfOk result (λ longer. longer.items ≡ list.items ++ item ∷ []) }
+{
+    let mut longer = list;
+    longer.push(item)?;
+    Ok(longer)
 }

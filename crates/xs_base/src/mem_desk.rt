@@ -1,10 +1,10 @@
 //! A desk in memory, for tests. It tells what it holds, and fails at the calls that it is given.
 ghost use Rattle.std.specs.Option.{ForSome, option_copied};
-ghost use Rattle.std.specs.Prelude.{◌≡◌, ◌≢◌, ◌≤◌, ◌++◌, ◌∷◌, [], IfOk, List, OnErr, OnOk, Some, if◌then◌else◌, length, ℕ};
-ghost use Rattle.std.specs.Str.{bytes_eq};
+ghost use Rattle.std.specs.Prelude.{◌≡◌, ◌≢◌, ◌≤◌, ◌∷◌, [], IfOk, OnErr, OnOk, Some, length};
 ghost use Rattle.xs_base.specs.Desks.{ReadCause, Reads};
-ghost use Rattle.xs_base.specs.InMemory.{after_read, held, is_listed, mem_read};
+ghost use Rattle.xs_base.specs.InMemory.{after_read, failing_at, held, mem_read, no_failures};
 
+use crate::failures::Failures;
 use crate::{Bytes, Desk, DeskFault, Memory};
 use std::alloc::Global;
 use std::marker::Model;
@@ -22,9 +22,7 @@ pub struct MemDesk {
     alloc: Global,
     /// The file that was added last comes first, and hides an older one of its name.
     held: Vec<HeldFile>,
-    failing: Vec<u64>,
-    calls: u64,
-    failed: u64,
+    failures: Failures,
 }
 
 impl Model for MemDesk {
@@ -32,27 +30,24 @@ impl Model for MemDesk {
 
     ghost Value = { MemFiles };
 
-    ghost view = { λ d. record { held_files = d.held.items; failing = d.failing.items; calls = d.calls; failed = d.failed } };
+    ghost view = { λ d. record { held_files = d.held.items; failures = d.failures } };
 }
 
 impl MemDesk {
     /// A desk without files.
     pub fn new(alloc: Global) -> MemDesk
-        ensures { result ≡ record { held_files = []; failing = []; calls = 0; failed = 0 } }
+        ensures { result ≡ record { held_files = []; failures = no_failures } }
     {
         MemDesk {
             alloc,
             held: Vec::new(alloc),
-            failing: Vec::new(alloc),
-            calls: 0,
-            failed: 0,
+            failures: Failures::new(alloc),
         }
     }
 
-    /// Puts a file onto the desk, in the place of one of the same name.
+    /// Puts a file onto the desk, in front of one of the same name, which is hidden by it.
     pub fn add(&mut self, name: Bytes, bytes: Bytes) -> Result<(), Memory>
-        ensures ok { OnOk result ((other : List ℕ) →
-            held self.new.held_files other ≡ (if bytes_eq name other then Some bytes else held self.old.held_files other)) }
+        ensures ok { OnOk result (self.new ≡ record self.old { held_files = record { name = name; bytes = bytes } ∷ self.old.held_files }) }
         ensures err { OnErr result (self.new ≡ self.old) }
     {
         self.held.insert(0, HeldFile { name, bytes })?;
@@ -61,11 +56,10 @@ impl MemDesk {
 
     /// Makes the read of this number fail. Reads are counted from 1.
     pub fn fail_at(&mut self, call: u64) -> Result<(), Memory>
-        ensures ok { OnOk result (self.new ≡ record self.old { failing = self.old.failing ++ call ∷ [] }) }
+        ensures ok { OnOk result (self.new ≡ record self.old { failures = failing_at call self.old.failures }) }
         ensures err { OnErr result (self.new ≡ self.old) }
     {
-        self.failing.push(call)?;
-        Ok(())
+        self.failures.add(call)
     }
 }
 
@@ -81,30 +75,21 @@ fn find<'a>(files: &'a [HeldFile], name: &Bytes) -> Option<&'a Bytes>
     None
 }
 
-/// Whether the call of this number is listed.
-pub(crate) fn is_among(calls: &[u64], call: u64) -> bool
-    ensures { result ≡ is_listed calls.now call }
-{
-    calls.iter().any(|c| *c == call)
-}
-
 impl Desk for MemDesk {
     ghost files = { λ d. Some (held d.held_files) };
 
-    ghost fault_count = { λ d. d.failed };
+    ghost fault_count = { λ d. d.failures.failed };
 
     fn read(&mut self, name: &Bytes, limit: u32) -> Result<Bytes, DeskFault>
         ensures bound { IfOk result (λ bytes. length bytes ≤ limit) }
         ensures told { ForSome (Some (held self.old.held_files)) (λ files. Reads (files name.now) limit result) }
         ensures same { Some (held self.new.held_files) ≡ Some (held self.old.held_files) }
-        ensures cause { ReadCause self.old.failed self.new.failed result }
+        ensures cause { ReadCause self.old.failures.failed self.new.failures.failed result }
         // It fails at the listed calls alone.
         ensures exact { result ≢ Err DeskFault.Memory → result ≡ mem_read self.old name.now limit }
         ensures after { self.new ≡ after_read self.old }
     {
-        self.calls = self.calls.saturating_add(1);
-        if is_among(&self.failing, self.calls) {
-            self.failed = self.failed.saturating_add(1);
+        if self.failures.next(false) {
             return Err(DeskFault::Failed);
         }
         let bytes = find(&self.held, name).ok_or(DeskFault::Missing)?;
@@ -115,6 +100,6 @@ impl Desk for MemDesk {
     }
 
     fn faults(&self) -> u64 {
-        self.failed
+        self.failures.count()
     }
 }

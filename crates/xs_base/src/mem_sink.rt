@@ -1,10 +1,10 @@
 //! A sink in memory, for tests. It tells what it has taken, and fails at the calls that it is given and where its room is
 //! full.
 ghost use Rattle.std.specs.Prelude.{◌≡◌, ◌++◌, ◌∷◌, [], ◌≤◌, ◌<◌, length, take, IfOk, OnErr, OnOk, Some};
-ghost use Rattle.xs_base.specs.InMemory.{after_write, mem_write};
+ghost use Rattle.xs_base.specs.InMemory.{after_write, failing_at, mem_write, no_failures};
 ghost use Rattle.xs_base.specs.Sinks.{WriteCause, appended};
 
-use crate::mem_desk::is_among;
+use crate::failures::Failures;
 use crate::{Memory, Sink, SinkFault};
 use std::alloc::Global;
 use std::marker::Model;
@@ -15,9 +15,7 @@ pub struct MemSink {
     taken: Vec<u8>,
     per_write: u32,
     room: u32,
-    failing: Vec<u64>,
-    calls: u64,
-    failed: u64,
+    failures: Failures,
 }
 
 impl Model for MemSink {
@@ -27,7 +25,7 @@ impl Model for MemSink {
 
     ghost Value = { MemBytes };
 
-    ghost view = { λ s. record { taken = s.taken.items; per_write = s.per_write; room = s.room; failing = s.failing.items; calls = s.calls; failed = s.failed } };
+    ghost view = { λ s. record { taken = s.taken.items; per_write = s.per_write; room = s.room; failures = s.failures } };
 
     ghost invariant = { λ s. (0 < s.per_write) × (length s.taken.items ≤ s.room) × (s.room ≤ vec_capacity s.taken) };
 }
@@ -36,26 +34,23 @@ impl MemSink {
     /// A sink that takes at most `per_write` bytes in a write, and `room` bytes in all.
     pub fn new(alloc: Global, per_write: u32, room: u32) -> Result<MemSink, Memory>
         requires { 0 < per_write }
-        ensures { IfOk result (λ s. s ≡ record { taken = []; per_write = per_write; room = room; failing = []; calls = 0; failed = 0 }) }
+        ensures { IfOk result (λ s. s ≡ record { taken = []; per_write = per_write; room = room; failures = no_failures }) }
     {
         let taken = Vec::with_capacity(alloc, room as usize)?;
         Ok(MemSink {
             taken,
             per_write,
             room,
-            failing: Vec::new(alloc),
-            calls: 0,
-            failed: 0,
+            failures: Failures::new(alloc),
         })
     }
 
     /// Makes the write of this number fail. Writes are counted from 1.
     pub fn fail_at(&mut self, call: u64) -> Result<(), Memory>
-        ensures ok { OnOk result (self.new ≡ record self.old { failing = self.old.failing ++ call ∷ [] }) }
+        ensures ok { OnOk result (self.new ≡ record self.old { failures = failing_at call self.old.failures }) }
         ensures err { OnErr result (self.new ≡ self.old) }
     {
-        self.failing.push(call)?;
-        Ok(())
+        self.failures.add(call)
     }
 
     /// The bytes that it has taken.
@@ -69,7 +64,7 @@ impl MemSink {
 impl Sink for MemSink {
     ghost told = { λ s. Some s.taken };
 
-    ghost fault_count = { λ s. s.failed };
+    ghost fault_count = { λ s. s.failures.failed };
 
     fn write(&mut self, piece: &[u8]) -> Result<usize, SinkFault>
         requires { 0 < length piece.now }
@@ -77,14 +72,12 @@ impl Sink for MemSink {
         ensures within { IfOk result (λ n. n ≤ length piece.now) }
         ensures taken { IfOk result (λ n. Some self.new.taken ≡ appended (Some self.old.taken) (take n piece.now)) }
         ensures failed { OnErr result (Some self.new.taken ≡ Some self.old.taken) }
-        ensures cause { WriteCause self.old.failed self.new.failed result }
+        ensures cause { WriteCause self.old.failures.failed self.new.failures.failed result }
         ensures exact { result ≡ mem_write self.old piece.now }
         ensures after { self.new ≡ after_write self.old piece.now }
     {
-        self.calls = self.calls.saturating_add(1);
         let left = self.room as usize - self.taken.len();
-        if is_among(&self.failing, self.calls) || left == 0 {
-            self.failed = self.failed.saturating_add(1);
+        if self.failures.next(left == 0) {
             return Err(SinkFault::Failed);
         }
         let n = (self.per_write as usize).min(piece.len()).min(left);
@@ -93,6 +86,6 @@ impl Sink for MemSink {
     }
 
     fn faults(&self) -> u64 {
-        self.failed
+        self.failures.count()
     }
 }

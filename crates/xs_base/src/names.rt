@@ -3,6 +3,7 @@ ghost use Rattle.std.specs.Prelude.{◌≡◌, List, map, true, ℕ};
 ghost use Rattle.xs_base.specs.Names as spec;
 ghost use Rattle.xs_base.specs.Scanning as scanning;
 
+use crate::Bytes;
 use crate::runs::{ByteClass, are_all};
 use crate::scanning::{begins_word, is_word_byte};
 
@@ -54,6 +55,13 @@ pub fn is_among(words: &[&str], word: &[u8]) -> bool
         }
     }
     false
+}
+
+/// Whether a word is one of these names.
+pub fn is_among_names(names: &[Bytes], word: &[u8]) -> bool
+    ensures { result ≡ spec.is_among names.now word.now }
+{
+    names.iter().any(|name| name.as_slice() == word)
 }
 
 /// The qualified names are identifiers joined by `::`, and such texts alone.

@@ -5,7 +5,7 @@ ghost use Rattle.xs_base.specs.Readers.{head_is};
 ghost use Rattle.xs_base.specs.Runs as spec;
 ghost use Rattle.xs_base.specs.Scanning as scanning;
 
-use crate::scanning::{is_blank, is_digit, is_letter, is_word_byte};
+use crate::scanning::{begins_with, is_blank, is_digit, is_letter, is_word_byte};
 
 /// A class of bytes.
 #[derive(Clone, Copy, Debug, PartialEq, Eq)]
@@ -24,12 +24,20 @@ pub enum ByteClass {
     Word,
     /// What stands in identifiers joined by `::`.
     Name,
+    /// C's white space, of which blanks are a part (isspace of the C standard).
+    Space,
 }
 
 fn is_capital(b: u8) -> bool
     ensures { result ≡ spec.is_capital b }
 {
     b'A' <= b && b <= b'Z' || b == b'_'
+}
+
+fn is_space(b: u8) -> bool
+    ensures { result ≡ spec.is_space b }
+{
+    b'\t' <= b && b <= b'\r' || b == b' '
 }
 
 /// Whether a byte is of a class.
@@ -44,6 +52,7 @@ fn belongs(class: ByteClass, b: u8) -> bool
         ByteClass::Capital => is_capital(b),
         ByteClass::Word => is_word_byte(b),
         ByteClass::Name => is_word_byte(b) || b == b':',
+        ByteClass::Space => is_space(b),
     }
 }
 
@@ -95,9 +104,33 @@ pub fn behind_blanks(text: &[u8]) -> &[u8]
     cut_run(ByteClass::Blank, text).1
 }
 
+/// Whether the first byte of a text that is no blank is `#`.
+pub fn is_remark(text: &[u8]) -> bool
+    ensures { result ≡ spec.is_remark text.now }
+{
+    begins_with(b"#", behind_blanks(text))
+}
+
 /// Whether a text has blanks alone.
 pub fn is_blank_line(text: &[u8]) -> bool
     ensures { result ≡ scanning.is_blank_line text.now }
 {
     are_all(ByteClass::Blank, text)
+}
+
+// Whether a text is a `0` with other bytes behind it.
+fn has_leading_zero(text: &[u8]) -> bool
+    ensures { result ≡ scanning.has_leading_zero text.now }
+{
+    match text {
+        [first, _, ..] => *first == b'0',
+        _ => false,
+    }
+}
+
+/// Whether a text has decimal digits alone, without a zero in front of others (C standard).
+pub fn is_decimal(text: &[u8]) -> bool
+    ensures { result ≡ scanning.is_decimal text.now }
+{
+    are_all(ByteClass::Digit, text) && !has_leading_zero(text)
 }

@@ -58,6 +58,13 @@ pub fn after_word<'a>(word: &[u8], text: &'a [u8]) -> Option<&'a [u8]>
     Some(rest)
 }
 
+/// Whether a text begins with a word.
+pub fn begins_with(word: &[u8], text: &[u8]) -> bool
+    ensures { result ≡ spec.begins_with word.now text.now }
+{
+    after_word(word, text).is_some()
+}
+
 /// The value of decimal digits, if it has 64 bits.
 pub fn digits_value(digits: &[u8]) -> Option<u64>
     ensures some { IfSome result (λ n. n ≡ spec.value_of_digits digits.now) }

@@ -1,6 +1,8 @@
 -- A call with as many arguments as the XSUB has parameters: both definitions tell the same.
 use Rattle.std.proofs.Common.{◌≡◌, ℕ, suc, ℤ, ◌+◌, ◌≤◌, arith, Bool, true, false, List, [], ◌∷◌, ◌++◌, map, length, Some, None, refl, sym, ap, subst, ◌∙◌, append_assoc, append-nil, length-append}
+use Rattle.std.proofs.lemmas.Bool.{eqb-true}
 use Rattle.std.proofs.lemmas.Bool.Decides.{nat_tests}
+use Rattle.std.proofs.lemmas.List.{length-map, map-append}
 use Rattle.std.specs.Prelude.{◌==◌, Result, Ok, Err}
 use Rattle.xs_api.specs.declared.api.Frame.{Frame}
 use Rattle.xs_api.specs.declared.api.Operand.{Operand}
@@ -17,10 +19,11 @@ use Rattle.xs_values.specs.declared.kind.Kind.TheVariants.{I32, I64}
 use Rattle.xs_values.specs.declared.plain.Plain.TheVariants.{Undef, Int}
 use Rattle.xs_values.specs.declared.trap.Trap.{Trap}
 use Rattle.xs_values.specs.declared.trap.Trap.TheVariants.{Large}
-use Rattle.xs_values.specs.Numbers.{Number, wrapped_value}
+use Rattle.xs_values.specs.Numbers.{Number, wrapped, wrapped_value}
 use Rattle.xs_iface.specs.declared.xsub.Param.{Param}
 use Rattle.xs_iface.specs.declared.xsub.Xsub.{Xsub}
-use Rattle.xs_iface.specs.SumForm.{All, IsSumXsub, IsTermOf}
+use Rattle.std.specs.List.{AllByRecursion as All}
+use Rattle.xs_iface.specs.SumForm.{IsSumXsub, IsTermOf}
 use Rattle.xs_call.specs.declared.calls.CallCommand.{CallCommand}
 use Rattle.xs_call.specs.GlueCode.{xsub_function}
 use Rattle.xs_call.specs.Meaning as declared
@@ -48,31 +51,16 @@ room_for store h = grind (arith, nat_tests)
 
 -- ---- the arguments
 
-length_made : (zs : List ℤ) → length (made zs) ≡ length zs
-length_made [] = refl
-length_made (z ∷ zs) = ap suc (length_made zs)
-
 length_names : (n : ℕ) (zs : List ℤ) → length (names_from n zs) ≡ length zs
 length_names n [] = refl
 length_names n (z ∷ zs) = ap suc (length_names (n + 1) zs)
-
-pub length_values : (zs : List ℤ) → length (map Int zs) ≡ length zs
-length_values [] = refl
-length_values (z ∷ zs) = ap suc (length_values zs)
-
-length_inputs : (zs : List ℤ) → length (inputs_from zs) ≡ length zs
-length_inputs [] = refl
-length_inputs (z ∷ zs) = ap suc (length_inputs zs)
-
-one_less : (n m : ℕ) → suc n ≡ suc m → n ≡ m
-one_less n m e = omega (arith, e)
 
 all_hold : (ps : List Param) (zs : List ℤ) (h t : Cells) (n : ℕ) → length ps ≡ length zs → length h ≡ n → HoldAll (h ++ (made zs ++ t)) ps (names_from n zs) zs
 all_hold [] [] h t n e g = tt
 all_hold [] (z ∷ zs) h t n e g = absurd (omega (arith, e))
 all_hold (p ∷ ps) [] h t n e g = absurd (omega (arith, e))
 all_hold (p ∷ ps) (z ∷ zs) h t n e g =
-    (get_at h (made zs ++ t) (holds z) None n g, subst (λ c. HoldAll c ps (names_from (n + 1) zs) zs) (append_assoc h (holds z ∷ []) (made zs ++ t)) (all_hold ps zs (h ++ holds z ∷ []) t (n + 1) (one_less (length ps) (length zs) e) (one_longer h (holds z) n g)))
+    (get_at h (made zs ++ t) (holds z) None n g, subst (λ c. HoldAll c ps (names_from (n + 1) zs) zs) (append_assoc h (holds z ∷ []) (made zs ++ t)) (all_hold ps zs (h ++ holds z ∷ []) t (n + 1) (omega (arith, e)) (one_longer h (holds z) n g)))
 
 -- the same where nothing stands behind the arguments
 hold_made : (ps : List Param) (zs : List ℤ) (h : Cells) → length ps ≡ length zs → HoldAll (h ++ made zs) ps (names_from (length h) zs) zs
@@ -90,18 +78,11 @@ inputs_made zs s n e = ap (λ l. inputs_of (s ++ l) (names_from n zs)) (sym (app
 
 -- ---- one scalar more
 
-made_last : (zs : List ℤ) (v : ℤ) → made (zs ++ v ∷ []) ≡ made zs ++ holds v ∷ []
-made_last [] v = refl
-made_last (z ∷ zs) v = ap (λ c. holds z ∷ c) (made_last zs v)
-
 newest_last : (zs : List ℤ) (v : ℤ) (n : ℕ) (temps : List ℕ) → newest n (zs ++ v ∷ []) temps ≡ (n + length zs) ∷ newest n zs temps
 newest_last [] v n temps = let at : n ≡ n + 0 = omega arith in ap (λ k. k ∷ temps) at
 newest_last (z ∷ zs) v n temps =
     let at : n + 1 + length zs ≡ n + suc (length zs) = omega arith in
     newest_last zs v (n + 1) (n ∷ temps) ∙ ap (λ k. k ∷ newest (n + 1) zs (n ∷ temps)) at
-
-equal : (n m : ℕ) → (n == m) ≡ true → n ≡ m
-equal n m e = grind (arith, nat_tests)
 
 module _ (code : Code) (names : List Registered) (x : Xsub) (ok : IsSumXsub x) (i : ℕ) (c : CallCommand) (known : registered c.sub names ≡ Some i) (here : function_at code (Some i) ≡ Some (xsub_function x)) (o : Outcome) (vars : List Operand) (f : Frame) (t0 turns : ℕ) (goes : is_over o ≡ false) (h : Cells) (s : Store) (long : 5 ≤ length h) (none : live_of h ≡ 0) (same : length h ≡ length s) (zs : List ℤ) (held : length (names_from (length h) zs) ≤ 1000000) (many : (length (names_from (length h) zs) == length x.params) ≡ true) where
   abbrev args : List ℕ
@@ -126,13 +107,13 @@ module _ (code : Code) (names : List Registered) (x : Xsub) (ok : IsSumXsub x) (
   few = omega (arith, ok.few_params)
 
   as_many : length x.params ≡ length zs
-  as_many = sym (equal (length args) (length x.params) many) ∙ length_names (length h) zs
+  as_many = sym (eqb-true (length args) (length x.params) many) ∙ length_names (length h) zs
 
   hold : HoldAll cells x.params args zs
   hold = hold_made x.params zs h as_many
 
   terms : All (IsTermOf (length (inputs_from zs))) x.sum
-  terms = subst (λ n. All (IsTermOf n) x.sum) (as_many ∙ sym (length_inputs zs)) ok.terms
+  terms = subst (λ n. All (IsTermOf n) x.sum) (as_many ∙ sym (length-map zs (wrapped I32))) ok.terms
 
   -- what is declared of the call
   abbrev declared_end : Ended
@@ -148,7 +129,7 @@ module _ (code : Code) (names : List Registered) (x : Xsub) (ok : IsSumXsub x) (
   trap_same trap e = trapped_behind names c args end trap _ store (trapped_called code c.sub args temps cells names o vars f t0 goes x i known here few turns held many zs hold terms trap e)
 
   same_lengths : length cells ≡ length store
-  same_lengths = omega (arith, same, length-append h (made zs), length-append s (map Int zs), length_made zs, length_values zs)
+  same_lengths = omega (arith, same, length-append h (made zs), length-append s (map Int zs), length-map zs holds, length-map zs Int)
 
   large_same : (n : Number) → sum ≡ Ok n → declared.may_make 1 store ≡ false → Same (declared.result_of store (Ok n))
   large_same n e full =
@@ -170,10 +151,10 @@ module _ (code : Code) (names : List Registered) (x : Xsub) (ok : IsSumXsub x) (
   name = length h + length zs
 
   next_cell : length cells ≡ name
-  next_cell = omega (arith, length-append h (made zs), length_made zs)
+  next_cell = omega (arith, length-append h (made zs), length-map zs holds)
 
   next_value : length store ≡ name
-  next_value = omega (arith, same, length-append s (map Int zs), length_values zs)
+  next_value = omega (arith, same, length-append s (map Int zs), length-map zs Int)
 
   -- the cells, the world and the store behind the call
   abbrev end_cells : ℤ → Cells
@@ -194,7 +175,7 @@ module _ (code : Code) (names : List Registered) (x : Xsub) (ok : IsSumXsub x) (
       let at_value : EndsAs end (outcome.Returned (name ∷ [])) (W name n.value) =
       subst (λ v. EndsAs end (outcome.Returned (name ∷ [])) (W name v)) (stored n e) at_name in
       let with_cells : EndsAs end (outcome.Returned (name ∷ [])) (world (h ++ made (zs ++ n.value ∷ [])) (name ∷ []) 1 [] (name ∷ temps) names) =
-      subst (λ cs. EndsAs end (outcome.Returned (name ∷ [])) (world cs (name ∷ []) 1 [] (name ∷ temps) names)) (append_assoc h (made zs) (holds n.value ∷ []) ∙ ap (λ l. h ++ l) (sym (made_last zs n.value))) at_value in
+      subst (λ cs. EndsAs end (outcome.Returned (name ∷ [])) (world cs (name ∷ []) 1 [] (name ∷ temps) names)) (append_assoc h (made zs) (holds n.value ∷ []) ∙ ap (λ l. h ++ l) (sym (map-append holds zs (n.value ∷ [])))) at_value in
       subst (λ ts. EndsAs end (outcome.Returned (name ∷ [])) (world (h ++ made (zs ++ n.value ∷ [])) (name ∷ []) 1 [] ts names)) (sym (newest_last zs n.value (length h) [])) with_cells
 
   declared_returns : (n : Number) → sum ≡ Ok n → declared.may_make 1 store ≡ true → declared.result_of store (Ok n) ≡ record { how = Returned (name ∷ []); store = end_store n.value }
@@ -219,7 +200,7 @@ module _ (code : Code) (names : List Registered) (x : Xsub) (ok : IsSumXsub x) (
       ∙ ap (λ l. returned_text 1 ++ ((item_line (show_in (end_store v)) args 0 name ++ []) ++ l)) (arg_lines-same zs h (holds v ∷ []) s (Int v ∷ []) (length h) 0 refl (sym same))
 
   lines_same : (v : ℤ) → end_lines (show_cell (h ++ made (zs ++ v ∷ []))) args (Returned (name ∷ [])) ≡ end_lines (show_in (end_store v)) args (Returned (name ∷ []))
-  lines_same v = ap (λ l. end_lines (show_cell (h ++ l)) args (Returned (name ∷ []))) (made_last zs v) ∙ lines_at v
+  lines_same v = ap (λ l. end_lines (show_cell (h ++ l)) args (Returned (name ∷ []))) (map-append holds zs (v ∷ [])) ∙ lines_at v
 
   leaves : (v : ℤ) → declared.may_make 1 store ≡ true → Leaves (end_store v) h (zs ++ v ∷ [])
   leaves v room =
@@ -227,7 +208,7 @@ module _ (code : Code) (names : List Registered) (x : Xsub) (ok : IsSumXsub x) (
       record {
         long = long;
         none = none;
-        same = omega (arith, same, length-append s (map Int zs ++ Int v ∷ []), length-append (map Int zs) (Int v ∷ []), length_values zs, length-append zs (v ∷ []));
+        same = omega (arith, same, length-append s (map Int zs ++ Int v ∷ []), length-append (map Int zs) (Int v ∷ []), length-map zs Int, length-append zs (v ∷ []));
         few = omega (arith, fits, next_value, length-append zs (v ∷ []));
       }
 

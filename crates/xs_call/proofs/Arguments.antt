@@ -3,7 +3,8 @@ use Rattle.std.proofs.Common.{◌≡◌, ◌≢◌, ℤ, pos, ℕ, ◌+◌, ◌<
 use Rattle.std.proofs.Math.ListN.{get_or}
 use Rattle.std.proofs.lemmas.List.{drop_more}
 use Rattle.std.specs.Prelude.{if◌then◌else◌}
-use Rattle.xs_call.specs.Running.{Made, AllMade, NotMade, args_made, end_of, told_call, told_call_with, told_end, with_argument, with_name}
+use Rattle.xs_call.specs.Running.{Made, AllMade, NotMade, args_made, end_of, told_call, told_call_with, told_end, with_name}
+use Rattle.xs_api.specs.Rows.{with_mortal}
 use Rattle.xs_api.specs.declared.api.Operand.TheVariants.{Scalar}
 use Rattle.xs_api.specs.declared.api.Frame.{Frame}
 use Rattle.xs_api.specs.declared.api.Abrupt.TheVariants.{Traps}
@@ -11,7 +12,8 @@ use Rattle.xs_api.specs.Rows.{new_mortal, trapped}
 use Rattle.xs_api.specs.Effects.{Gives, Ends}
 use Rattle.xs_api.specs.World.{World, may_make}
 use Rattle.xs_machine.specs.Machine.{Mach, called}
-use Rattle.xs_machine.specs.Views.{MakesArgument, with_world}
+use Rattle.xs_machine.specs.Views.{MakesArgument}
+use Rattle.xs_machine.specs.Machine.{with_world}
 use Rattle.xs_api.specs.declared.api.Stop.{Stop}
 use Rattle.xs_api.specs.declared.api.Stop.TheVariants as stop
 use Rattle.xs_call.specs.Runs.{IsTold, MakesArguments}
@@ -50,7 +52,7 @@ made_by false zs k n f w w' w1 e = cc
 
 -- one argument is made, and then the others
 pub one_made : (z : ℤ) (zs : List ℤ) (f : Frame) (w w1 : World) (n : ℕ) → new_mortal (Int z) f w ≡ Gives (Scalar (Some n)) f w1 → args_made (z ∷ zs) w ≡ with_name n (args_made zs w1)
-one_made z zs f w w1 n e = made_by (may_make w.cells) zs (length w.cells) n f w (with_argument z w) w1 e
+one_made z zs f w w1 n e = made_by (may_make w.cells) zs (length w.cells) n f w (with_mortal (Int z) w) w1 e
 
 stopped_by : (b : Bool) (made : Made) (k : ℕ) (f : Frame) (w w' : World) (t : Trap) → cond b (Gives (Scalar (Some k)) f w') (trapped Large f w) ≡ Ends (Traps t) f w → cond b made (NotMade Large) ≡ NotMade t
 stopped_by true made k f w w' t e = cc
@@ -58,7 +60,7 @@ stopped_by false made k f w w' t e = cc
 
 -- an argument is not made, so none is
 pub none_made : (z : ℤ) (zs : List ℤ) (f : Frame) (w : World) (t : Trap) → new_mortal (Int z) f w ≡ Ends (Traps t) f w → args_made (z ∷ zs) w ≡ NotMade t
-none_made z zs f w t e = stopped_by (may_make w.cells) (with_name (length w.cells) (args_made zs (with_argument z w))) (length w.cells) f w (with_argument z w) t e
+none_made z zs f w t e = stopped_by (may_make w.cells) (with_name (length w.cells) (args_made zs (with_mortal (Int z) w))) (length w.cells) f w (with_mortal (Int z) w) t e
 
 -- ---- the turns of the loop
 
@@ -108,9 +110,3 @@ pub call_goes_on : (code : Code) (m new : Mach World) (c : CallCommand) (cs : Li
 call_goes_on code m new c cs t h g =
     ap (λ x. x ++ go_on (told_call code m c).next (λ next. calls_told (told_call code) next cs)) (sym h.text_is)
     ∙ ap (λ n. t.text ++ go_on n (λ next. calls_told (told_call code) next cs)) (h.next_is ∙ ap (λ b. if b then Some new else None) g)
-
-pub call_ends : (code : Code) (m new : Mach World) (c : CallCommand) (cs : List CallCommand) (t : Telling) → IsTold (told_call code m c) t new → t.goes_on ≡ false → calls_told (told_call code) m (c ∷ cs) ≡ t.text
-call_ends code m new c cs t h g =
-    ap (λ x. x ++ go_on (told_call code m c).next (λ next. calls_told (told_call code) next cs)) (sym h.text_is)
-    ∙ ap (λ n. t.text ++ go_on n (λ next. calls_told (told_call code) next cs)) (h.next_is ∙ ap (λ b. if b then Some new else None) g)
-    ∙ append-nil t.text

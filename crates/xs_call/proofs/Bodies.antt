@@ -23,18 +23,20 @@ use Rattle.xs_values.specs.Numbers.{Number, is_same, wrapped, wrapped_value}
 use Rattle.xs_values.proofs.Wrapping.{wrapped_value-held}
 use Rattle.xs_iface.specs.declared.xsub.Param.{Param}
 use Rattle.xs_iface.specs.declared.xsub.Xsub.{Xsub}
-use Rattle.xs_iface.specs.SumForm.{All, IsTermOf}
+use Rattle.std.specs.List.{AllByRecursion as All}
+use Rattle.xs_iface.specs.SumForm.{IsTermOf}
 use Rattle.xs_stub.specs.Stub.{joined_names}
 use Rattle.xs_call.specs.GlueCode.{trees_of, row_of, row_done, int_literal, assign_int, assign_scalar, declarations, input, inputs, retval, retval_scalar, sum_tree, end, work, xsub_body}
 use Rattle.xs_call.specs.Meaning.{sum_of}
 use Rattle.xs_call.proofs.Scalars.{get_at, get_next, set_at, set_next, find_at, one_longer}
+use Rattle.xs_call.proofs.Numbers.{in_range}
 use Rattle.xs_call.proofs.Statements.{state, world, frame, then_on, then_out, input_done, int_done, int_trapped, mortal_done, mortal_large, setiv_done, item_done, item_returned, with_first}
 use Rattle.xs_call.proofs.Sums.{sum_means}
 
 -- ---- the argument test
 
 small_held : (n : ℕ) → n ≤ 1000000 → wrapped_value I32 (pos n) ≡ pos n
-small_held n h = wrapped_value-held I32 (pos n) (record { low = omega (arith, ints); high = omega (arith, ints, h) })
+small_held n h = wrapped_value-held I32 (pos n) (in_range n (omega (arith, h)))
 
 differs : (n k : ℕ) → (n == k) ≡ false → is_same (pos n) (pos k) ≡ false
 differs n k e = grind (arith, ints, nat_tests)

@@ -1,5 +1,6 @@
 -- Where the machine stands behind a call, by the ways out.
 use Rattle.std.proofs.Common.{◌≡◌, ℕ, suc, ℤ, ◌+◌, ◌-◌, ◌<◌, ◌≤◌, arith, true, false, List, [], ◌∷◌, ◌++◌, map, length, replicate, Some, None, refl, ap, ◌∙◌}
+use Rattle.std.proofs.lemmas.Bool.{le-ltb, lt-ltb}
 use Rattle.std.proofs.lemmas.Bool.Decides.{nat_tests}
 use Rattle.std.specs.Prelude.{◌==◌, nat_lt, Ok, Err}
 use Rattle.xs_machine.proofs.Ends.{run_over, stays}
@@ -21,7 +22,8 @@ use Rattle.xs_values.specs.declared.trap.Trap.{Trap}
 use Rattle.xs_values.specs.declared.trap.Trap.TheVariants.{Large}
 use Rattle.xs_values.specs.Numbers.{Number, wrapped, wrapped_value}
 use Rattle.xs_iface.specs.declared.xsub.Xsub.{Xsub}
-use Rattle.xs_iface.specs.SumForm.{All, IsTermOf}
+use Rattle.std.specs.List.{AllByRecursion as All}
+use Rattle.xs_iface.specs.SumForm.{IsTermOf}
 use Rattle.xs_stub.specs.Stub.{joined_names}
 use Rattle.xs_call.specs.GlueCode.{xsub_body, xsub_function}
 use Rattle.xs_call.specs.Meaning.{sum_of}
@@ -39,12 +41,6 @@ pub record EndsAs (m : Mach World) (o : Outcome) (w : World) : Type 0 where
   pub turns : ℕ
   pub is : m ≡ resting o vars frame w turns
 
-fits : (n : ℕ) → n ≤ 1000000 → nat_lt 1000000 (0 + n) ≡ false
-fits n h = grind (arith, nat_tests)
-
-exceeds : (n : ℕ) → 1000000 < n → nat_lt 1000000 (0 + n) ≡ true
-exceeds n h = grind (arith, nat_tests)
-
 module _ (code : Code) (sub args temps : List ℕ) (cells : Cells) (names : List Registered) (o : Outcome) (vars : List Operand) (f : Frame) (t0 : ℕ) (goes : is_over o ≡ false) where
   abbrev before : World
   before = world cells [] 0 [] temps names
@@ -52,13 +48,13 @@ module _ (code : Code) (sub args temps : List ℕ) (cells : Cells) (names : List
   -- more arguments than the list holds
   pub too_many_called : (turns : ℕ) → 1000000 < length args → EndsAs (called code sub args turns (resting o vars f before t0)) (outcome.Trapped Large) before
   too_many_called turns h =
-      let begins : begun_at sub (registered sub names) args turns (resting o vars f before t0) ≡ resting (outcome.Trapped Large) vars f before t0 = rw (goes, exceeds (length args) h) refl in
+      let begins : begun_at sub (registered sub names) args turns (resting o vars f before t0) ≡ resting (outcome.Trapped Large) vars f before t0 = rw (goes, lt-ltb 1000000 (0 + length args) (omega (arith, h))) refl in
       record { vars = vars; frame = f; turns = t0; is = ap (run code) begins ∙ stays counted_rows code (left code (resting (outcome.Trapped Large) vars f before t0)) (resting (outcome.Trapped Large) vars f before t0) refl }
 
   -- a call is what its function means
   pub over : (turns : ℕ) → length args ≤ 1000000 → called code sub args turns (resting o vars f before t0) ≡ call_over counted_rows code (depths_of before) (call_meaning counted_rows code (function_at code (registered sub names)) (state [] (frame sub 0) (with_call args before) turns))
   over turns h =
-      let begins : begun_at sub (registered sub names) args turns (resting o vars f before t0) ≡ run_on (Enter (registered sub names) ∷ Leave (depths_of before) ∷ []) [] (state [] (frame sub 0) (with_call args before) turns) = rw (goes, fits (length args) h) refl in
+      let begins : begun_at sub (registered sub names) args turns (resting o vars f before t0) ≡ run_on (Enter (registered sub names) ∷ Leave (depths_of before) ∷ []) [] (state [] (frame sub 0) (with_call args before) turns) = rw (goes, le-ltb 1000000 (0 + length args) (omega (arith, h))) refl in
       ap (run code) begins ∙ run_over counted_rows code (registered sub names) (depths_of before) (state [] (frame sub 0) (with_call args before) turns)
 
   none_above : length temps - length temps ≡ 0

@@ -9,6 +9,7 @@ use Rattle.xs_machine.specs.declared.machine.Outcome.TheVariants as outcome
 use Rattle.xs_machine.specs.Machine.{Mach, is_over}
 use Rattle.xs_api.specs.World.{Cells, World, live_of}
 use Rattle.xs_values.specs.declared.trap.Trap.{Trap}
+use Rattle.xs_call.specs.Headline.{BothGoOn}
 use Rattle.xs_call.specs.declared.calls.CallCommand.{CallCommand}
 use Rattle.xs_call.specs.Meaning as declared
 use Rattle.xs_call.specs.Meaning.{Store, show_in}
@@ -34,10 +35,7 @@ pub record AtRest (names : List Registered) (m : Mach World) (s : Store) : Type 
   pub few : length cells ≤ 4000005
 
 abbrev pub SameNext : List Registered → Option (Mach World) → Option Store → Type 0
-SameNext names None None = ⊤
-SameNext names (Some m) (Some s) = AtRest names m s
-SameNext names None (Some s) = ⊥
-SameNext names (Some m) None = ⊥
+SameNext names = BothGoOn (AtRest names)
 
 -- both tell the same, and both go on or neither does
 pub record SameTold (names : List Registered) (a : Told (Mach World)) (b : Told Store) : Type 0 where

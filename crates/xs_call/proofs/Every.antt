@@ -1,5 +1,6 @@
 -- Every call and every command: both definitions tell the same.
 use Rattle.std.proofs.Common.{◌≡◌, ℕ, suc, ℤ, ◌+◌, ◌<◌, ◌≤◌, arith, Bool, true, false, List, [], ◌++◌, map, length, Option, Some, None, refl, sym, ap, subst, length-append}
+use Rattle.std.proofs.lemmas.Bool.{leb-false, leb-true}
 use Rattle.std.proofs.lemmas.Bool.Decides.{nat_tests}
 use Rattle.std.specs.Prelude.{◌==◌, nat_le, slice_get}
 use Rattle.xs_api.specs.declared.api.Frame.{Frame}
@@ -24,19 +25,14 @@ use Rattle.xs_call.specs.Meaning.{Store, Ended, names_from, show_in, xsub_named}
 use Rattle.xs_call.specs.Running as running
 use Rattle.xs_call.specs.Running.{end_of, show_cell}
 use Rattle.xs_call.specs.Transcript.{Croaked, call_text, croaked_text, end_lines}
-use Rattle.xs_call.proofs.Accepted.{accepted_same, length_values}
+use Rattle.std.proofs.lemmas.List.{length-map}
+use Rattle.xs_call.proofs.Accepted.{accepted_same}
 use Rattle.xs_call.proofs.Calling.{EndsAs, resting, too_many_called, unknown_called, usage_called}
 use Rattle.xs_call.proofs.Commands.{AtRest, SameTold, Leaves, croaked_told, told_behind, trapped_behind}
 use Rattle.xs_call.proofs.Named.{found, registered_on}
 use Rattle.xs_call.proofs.Shown.{arg_lines-all}
 use Rattle.xs_call.proofs.Statements.{world}
 use Rattle.xs_call.proofs.Temporaries.{made, newest, all_made, not_made}
-
-at_most : (n : ℕ) → nat_le n 1000000 ≡ true → n ≤ 1000000
-at_most n e = grind (arith, nat_tests)
-
-more_than : (n : ℕ) → nat_le n 1000000 ≡ false → 1000000 < n
-more_than n e = grind (arith, nat_tests)
 
 -- the names that the boot of a module registers
 abbrev pub registered_names : Module → List Registered
@@ -63,7 +59,7 @@ module _ (code : Code) (m : Module) (good : IsSumModule m) (glue : code.function
     Same d = SameTold names (running.told_end (call_text c) args (end_of end.stopped) end) (declared.told_ended c args d)
 
     left : Leaves store h zs
-    left = record { long = long; none = none; same = omega (arith, same, length-append s (map Int zs), length_values zs); few = fits }
+    left = record { long = long; none = none; same = omega (arith, same, length-append s (map Int zs), length-map zs Int); few = fits }
 
     lines : (text : List ℕ) → end_lines (show_cell (h ++ made zs)) args (Croaked text) ≡ end_lines (show_in store) args (Croaked text)
     lines text = ap (λ l. croaked_text text ++ l) (arg_lines-all zs h s (length h) refl (sym same))
@@ -74,7 +70,7 @@ module _ (code : Code) (m : Module) (good : IsSumModule m) (glue : code.function
         (λ vs g k. croaked_told names c args vs g k [] 0 h zs store left text (lines text))
 
     many_same : nat_le (length args) 1000000 ≡ false → Same (declared.called m c.sub store args)
-    many_same e = rw e (trapped_behind names c args end Large _ store (too_many_called code c.sub args temps (h ++ made zs) names o vars f t0 goes (suc turns) (more_than (length args) e)))
+    many_same e = rw e (trapped_behind names c args end Large _ store (too_many_called code c.sub args temps (h ++ made zs) names o vars f t0 goes (suc turns) (leb-false (length args) 1000000 e)))
 
     module _ (held : length args ≤ 1000000) where
       -- what is to be shown of a name that finds these
@@ -100,7 +96,7 @@ module _ (code : Code) (m : Module) (good : IsSumModule m) (glue : code.function
       name_same = found c.sub code.functions (boot_function m) NameSame unknown_same known_same m.xsubs good.xsubs good.names_differ glue refl
 
     by_count : (b : Bool) → nat_le (length args) 1000000 ≡ b → Same (declared.called m c.sub store args)
-    by_count true e = rw e (name_same (at_most (length args) e))
+    by_count true e = rw e (name_same (leb-true (length args) 1000000 e))
     by_count false e = many_same e
 
     -- a call with any arguments

@@ -2,7 +2,7 @@
 use Rattle.std.proofs.Common.{◌≡◌, ℕ, suc, ◌+◌, arith, Bool, true, false, cond, List, [], ◌∷◌, map, length, Option, Some, None, refl, sym, ap, subst, ◌∙◌}
 use Rattle.std.proofs.lemmas.Bool.{or_parts}
 use Rattle.std.proofs.lemmas.Slice.Eq.{bytes_eq-Decides}
-use Rattle.std.specs.List.{list_any}
+use Rattle.std.specs.List.{list_any, position_from}
 use Rattle.std.specs.Option.{option_or}
 use Rattle.std.specs.Prelude.{slice_get}
 use Rattle.std.specs.Str.{bytes_eq}
@@ -12,7 +12,8 @@ use Rattle.xs_ccheck.specs.Tree.{Function}
 use Rattle.xs_api.specs.World.{registered}
 use Rattle.xs_iface.proofs.Noted.{same_both_ways}
 use Rattle.xs_iface.specs.declared.xsub.Xsub.{Xsub}
-use Rattle.xs_iface.specs.SumForm.{All, Differ, IsSumXsub}
+use Rattle.std.specs.List.{AllByRecursion as All}
+use Rattle.xs_iface.specs.SumForm.{Differ, IsSumXsub}
 use Rattle.xs_call.specs.GlueCode.{functions_on, xsub_function}
 use Rattle.xs_call.specs.Meaning.{xsub_named}
 
@@ -23,8 +24,7 @@ registered_on n (x ∷ xs) names = registered_on (n + 1) xs (record { name = x.f
 
 -- the function of the first XSUB that has the name
 abbrev place_named : List ℕ → ℕ → List Xsub → Option ℕ
-place_named name n [] = None
-place_named name n (x ∷ xs) = cond (bytes_eq x.full name) (Some n) (place_named name (n + 1) xs)
+place_named name = position_from (λ x. bytes_eq x.full name)
 
 -- a name that none of these has
 absent : (name : List ℕ) (n : ℕ) (xs : List Xsub) → list_any (λ later. bytes_eq name later) (map (λ x. x.full) xs) ≡ false → place_named name n xs ≡ None
@@ -79,7 +79,7 @@ module _ (name : List ℕ) (all : List Function) (last : Function) (P : Option �
 -- it stands behind all others
 pub boot_place : (last : Function) (n : ℕ) (xs : List Xsub) → last.is_boot ≡ true → boot_from n (functions_on last xs) ≡ Some (n + length xs)
 boot_place last n [] e = let at : n ≡ n + 0 = omega arith in rw e (ap Some at)
-boot_place last n (x ∷ xs) e = let at : suc n + length xs ≡ n + suc (length xs) = omega arith in boot_place last (suc n) xs e ∙ ap Some at
+boot_place last n (x ∷ xs) e = let at : n + 1 + length xs ≡ n + suc (length xs) = omega arith in boot_place last (n + 1) xs e ∙ ap Some at
 
 pub last_function : (last : Function) (xs : List Xsub) → slice_get (functions_on last xs) (length xs) ≡ Some last
 last_function last [] = refl

@@ -1,5 +1,5 @@
 -- Numbers of type `int`: what a conversion gives is in range, and a sum is in range or traps Overflow.
-use Rattle.std.proofs.Common.{◌≡◌, ℤ, pos, negsuc, ℕ, ◌-◌, ◌%◌, ◌<◌, ◌-ℤ◌, ◌≤ℤ◌, Bool, true, false, cond, refl, arith}
+use Rattle.std.proofs.Common.{◌≡◌, ℤ, pos, negsuc, ℕ, ◌-◌, ◌%◌, ◌<◌, ◌≤◌, ◌-ℤ◌, ◌≤ℤ◌, Bool, true, false, cond, refl, arith}
 use Rattle.std.proofs.lemmas.Bool.Decides.{nat_tests}
 use Rattle.std.proofs.lemmas.Int.{ints}
 use Rattle.std.specs.Int.RustNames.{int_le}
@@ -16,6 +16,10 @@ residue_low r h = grind (arith, ints, nat_tests)
 
 residue_high : (r : ℕ) → r < 4294967296 → cond (int_le (pos r) (pos 2147483647)) (pos r) (pos r -ℤ pos 4294967296) ≤ℤ pos 2147483647
 residue_high r h = grind (arith, ints, nat_tests)
+
+-- a number that is not below 0
+pub in_range : (v : ℕ) → v ≤ 2147483647 → IsInRange I32 (pos v)
+in_range v h = record { low = omega (arith, ints); high = omega (arith, ints, h) }
 
 -- what a conversion to `int` gives is in range
 pub wrapped_in_range : (z : ℤ) → IsInRange I32 (wrapped_value I32 z)

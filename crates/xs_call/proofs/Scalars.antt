@@ -1,28 +1,18 @@
 -- Places in a list of cells and in a list of values.
 use Rattle.std.proofs.Common.{◌≡◌, ℕ, ◌+◌, arith, List, [], ◌∷◌, ◌++◌, length, Some, refl, sym, ap, ◌∙◌, append_assoc, length-append}
+use Rattle.std.proofs.Math.Seq.{get_or-append_seam, set-append_seam}
+use Rattle.xs_ccheck.proofs.Growing.{get_seam}
 use Rattle.std.specs.Prelude.{slice_get, slice_index_or, slice_set}
-
-get_front : {X : Type 0} (h t : List X) (x d : X) → slice_index_or (h ++ x ∷ t) (length h) d ≡ x
-get_front [] t x d = refl
-get_front (y ∷ h) t x d = get_front h t x d
-
-set_front : {X : Type 0} (h t : List X) (x v : X) → slice_set (h ++ x ∷ t) (length h) v ≡ h ++ v ∷ t
-set_front [] t x v = refl
-set_front (y ∷ h) t x v = ap (λ l. y ∷ l) (set_front h t x v)
-
-find_front : {X : Type 0} (h t : List X) (x : X) → slice_get (h ++ x ∷ t) (length h) ≡ Some x
-find_front [] t x = refl
-find_front (y ∷ h) t x = find_front h t x
 
 -- what stands behind so many
 pub get_at : {X : Type 0} (h t : List X) (x d : X) (n : ℕ) → length h ≡ n → slice_index_or (h ++ x ∷ t) n d ≡ x
-get_at h t x d n e = ap (λ k. slice_index_or (h ++ x ∷ t) k d) (sym e) ∙ get_front h t x d
+get_at h t x d n e = ap (λ k. slice_index_or (h ++ x ∷ t) k d) (sym e) ∙ get_or-append_seam h x t d
 
 pub set_at : {X : Type 0} (h t : List X) (x v : X) (n : ℕ) → length h ≡ n → slice_set (h ++ x ∷ t) n v ≡ h ++ v ∷ t
-set_at h t x v n e = ap (λ k. slice_set (h ++ x ∷ t) k v) (sym e) ∙ set_front h t x v
+set_at h t x v n e = ap (λ k. slice_set (h ++ x ∷ t) k v) (sym e) ∙ set-append_seam h x t v
 
 pub find_at : {X : Type 0} (h t : List X) (x : X) (n : ℕ) → length h ≡ n → slice_get (h ++ x ∷ t) n ≡ Some x
-find_at h t x n e = ap (slice_get (h ++ x ∷ t)) (sym e) ∙ find_front h t x
+find_at h t x n e = ap (slice_get (h ++ x ∷ t)) (sym e) ∙ get_seam h x t
 
 pub one_longer : {X : Type 0} (h : List X) (x : X) (n : ℕ) → length h ≡ n → length (h ++ x ∷ []) ≡ n + 1
 one_longer h x n e = omega (arith, e, length-append h (x ∷ []))

@@ -10,7 +10,7 @@ use Rattle.xs_api.specs.declared.api.Operand.TheVariants.{Unset, Num, Scalar, Vo
 use Rattle.xs_api.specs.declared.api.Registered.{Registered}
 use Rattle.xs_api.specs.declared.heap.Cell.{Cell}
 use Rattle.xs_machine.specs.Cmean.{meaning, meaning_all}
-use Rattle.xs_api.specs.Rows.{counted_rows, with_temp}
+use Rattle.xs_api.specs.Rows.{counted_rows, with_mortal}
 use Rattle.xs_machine.specs.State.{State, Done, Stop}
 use Rattle.xs_ccheck.specs.Tree.{SvNewMortal, SvSetIv, StSet, XsReturn, Variable, Convert, Tree, Trees, MoreTrees}
 use Rattle.xs_api.specs.World.{Cells, World, cell_at, is_read_only, may_make, with_cells, with_new, with_value}
@@ -61,7 +61,7 @@ int_trapped slot e trap vars f w turns h = rw h refl
 pub mortal_done : (slot : ℕ) (vars : List Operand) (f : Frame) (w : World) (turns : ℕ)
     → may_make w.cells ≡ true
     → meaning counted_rows (assign_scalar slot (row_of SvNewMortal [])) (state vars f w turns)
-    ≡ Done Void (state (slice_set vars slot (Scalar (Some (length w.cells)))) f (with_temp (length w.cells) (with_cells (with_new Undef w.cells) w)) turns)
+    ≡ Done Void (state (slice_set vars slot (Scalar (Some (length w.cells)))) f (with_mortal Undef w) turns)
 mortal_done slot vars f w turns e = rw e refl
 
 pub mortal_large : (slot : ℕ) (vars : List Operand) (f : Frame) (w : World) (turns : ℕ)

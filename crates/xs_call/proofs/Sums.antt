@@ -1,5 +1,6 @@
 -- A sum of terms: what its tree means is what is declared of it, and its number is one that an `int` holds.
-use Rattle.std.proofs.Common.{◌≡◌, ℕ, zero, suc, ℤ, ◌<◌, arith, List, [], ◌∷◌, ◌++◌, map, length, refl}
+use Rattle.std.proofs.Common.{◌≡◌, ℕ, zero, suc, ℤ, pos, ◌<◌, arith, List, [], ◌∷◌, ◌++◌, map, length, get_or, refl, sym, ◌∙◌, subst}
+use Rattle.std.proofs.lemmas.List.{get_or-map, get_or_append_left, length-map}
 use Rattle.std.proofs.lemmas.Int.{ints}
 use Rattle.std.specs.Prelude.{slice_index_or, Result, Ok, Err}
 use Rattle.xs_api.specs.declared.api.Frame.{Frame}
@@ -16,21 +17,21 @@ use Rattle.xs_values.specs.declared.trap.Trap.{Trap}
 use Rattle.xs_values.specs.Numbers.{Number, calculated, wrapped}
 use Rattle.xs_iface.specs.declared.xsub.Term.{Term}
 use Rattle.xs_iface.specs.declared.xsub.Term.TheVariants as term
-use Rattle.xs_iface.specs.SumForm.{All, IsTermOf}
+use Rattle.std.specs.List.{AllByRecursion as All}
+use Rattle.xs_iface.specs.SumForm.{IsTermOf}
 use Rattle.xs_call.specs.GlueCode as glue
 use Rattle.xs_call.specs.GlueCode.{sum_tree, term_tree}
 use Rattle.xs_call.specs.Meaning as declared
 use Rattle.xs_call.specs.Meaning.{sum_of, term_value, zero_int}
-use Rattle.xs_call.proofs.Numbers.{IsInt, IsIntOrTrap, sum_of_two, wrapped_in_range}
+use Rattle.xs_call.proofs.Numbers.{IsInt, IsIntOrTrap, in_range, sum_of_two, wrapped_in_range}
 use Rattle.xs_call.proofs.Statements.{state}
 
 -- ---- the tree
 
 -- what a variable has that an input went into
 variable_is : (inputs : List Number) (others : List Operand) (at : ℕ) → at < length inputs → slice_index_or (map Num inputs ++ others) at Unset ≡ Num (slice_index_or inputs at zero_int)
-variable_is [] others at h = absurd (omega (arith, h))
-variable_is (n ∷ inputs) others zero h = refl
-variable_is (n ∷ inputs) others (suc at) h = variable_is inputs others at (omega (arith, h))
+variable_is inputs others at h =
+    get_or_append_left (map Num inputs) others Unset at (omega (arith, h, length-map inputs Num)) ∙ get_or-map Num inputs at zero_int Unset h
 
 module _ (inputs : List Number) (others : List Operand) (f : Frame) (w : World) (turns : ℕ) where
   -- the state behind the inputs
@@ -55,13 +56,12 @@ module _ (inputs : List Number) (others : List Operand) (f : Frame) (w : World) 
 -- ---- the number
 
 input_is_int : (zs : List ℤ) (at : ℕ) → at < length (map (wrapped I32) zs) → IsInt (slice_index_or (map (wrapped I32) zs) at zero_int)
-input_is_int [] at h = absurd (omega (arith, h))
-input_is_int (z ∷ zs) zero h = (refl, wrapped_in_range z)
-input_is_int (z ∷ zs) (suc at) h = input_is_int zs at (omega (arith, h))
+input_is_int zs at h =
+    subst IsInt (sym (get_or-map (wrapped I32) zs at (pos 0) zero_int (omega (arith, h, length-map zs (wrapped I32))))) (refl, wrapped_in_range (get_or zs at (pos 0)))
 
 term_is_int : (zs : List ℤ) (t : Term) → IsTermOf (length (map (wrapped I32) zs)) t → IsInt (term_value (map (wrapped I32) zs) t)
 term_is_int zs (term.Parameter at) h = input_is_int zs at h
-term_is_int zs (term.Literal value) h = (refl, record { low = omega (arith, ints); high = omega (arith, ints, h) })
+term_is_int zs (term.Literal value) h = (refl, in_range value h)
 
 more_is_int : (zs : List ℤ) (ts : List Term) (r : Result Number Trap) → All (IsTermOf (length (map (wrapped I32) zs))) ts → IsIntOrTrap r → IsIntOrTrap (declared.sum_on (map (wrapped I32) zs) r ts)
 more_is_int zs ts (Err trap) h r = r

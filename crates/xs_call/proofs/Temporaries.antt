@@ -1,7 +1,10 @@
 -- The arguments of a call are made, each a temporary; the end of the temporaries frees them all.
-use Rattle.std.proofs.Common.{◌≡◌, ℕ, suc, ℤ, ◌+◌, ◌-◌, ◌<◌, ◌≤◌, arith, Bool, true, false, cond, List, [], ◌∷◌, ◌++◌, length, drop, Some, None, refl, sym, ap, ◌∙◌, append_assoc, append-nil}
+use Rattle.std.proofs.Common.{◌≡◌, ℕ, suc, ℤ, ◌+◌, ◌-◌, ◌<◌, ◌≤◌, arith, Bool, true, false, cond, List, [], ◌∷◌, ◌++◌, length, map, drop, Some, None, refl, sym, ap, ◌∙◌, append_assoc, append-nil}
+use Rattle.std.proofs.lemmas.List.Sums.{sum_by-append}
+use Rattle.xs_api.proofs.Cells.{one_of}
 use Rattle.std.proofs.lemmas.Bool.Decides.{nat_tests}
-use Rattle.std.proofs.lemmas.List.{drop-append-le}
+use Rattle.std.proofs.lemmas.Bool.{cond_both}
+use Rattle.std.proofs.lemmas.List.{drop-append-le, length-map}
 use Rattle.xs_api.specs.declared.api.Registered.{Registered}
 use Rattle.xs_machine.specs.Machine.{runner_depths}
 use Rattle.xs_api.specs.World.{Cells, World, Swept, Clean, Dirty, free_newest, is_read_only, is_uncounted, live_of, living, lower, may_make, sweep, then_swept, with_temps}
@@ -14,12 +17,10 @@ use Rattle.xs_call.proofs.Statements.{world}
 
 -- the cells of arguments, and the same cells once they are gone
 abbrev pub made : List ℤ → Cells
-made [] = []
-made (z ∷ zs) = holds z ∷ made zs
+made zs = map holds zs
 
 abbrev pub gone : List ℤ → Cells
-gone [] = []
-gone (z ∷ zs) = None ∷ gone zs
+gone zs = map (λ z. None) zs
 
 -- the names from this one on, the newest first, above others
 abbrev pub newest : ℕ → List ℤ → List ℕ → List ℕ
@@ -41,10 +42,6 @@ all_made (z ∷ zs) cells n temps names e h =
     ∙ ap (λ k. AllMade (k ∷ names_from (n + 1) zs) (world ((cells ++ holds z ∷ []) ++ made zs) [] 0 [] (newest (n + 1) zs (k ∷ temps)) names)) e
     ∙ ap (λ c. AllMade (n ∷ names_from (n + 1) zs) (world c [] 0 [] (newest (n + 1) zs (n ∷ temps)) names)) (append_assoc cells (holds z ∷ []) (made zs))
 
-either : (b : Bool) (x y : Made) → (b ≡ true → x ≡ y) → cond b x y ≡ y
-either true x y f = f refl
-either false x y f = refl
-
 room_left : (cells : Cells) (n : ℕ) → length cells ≡ n → may_make cells ≡ true → n + 1 ≤ 4000005
 room_left cells n e h = grind (arith, nat_tests)
 
@@ -52,8 +49,8 @@ room_left cells n e h = grind (arith, nat_tests)
 pub not_made : (zs : List ℤ) (cells : Cells) (n : ℕ) (temps : List ℕ) (names : List Registered) → length cells ≡ n → n ≤ 4000005 → 4000005 < n + length zs → args_made zs (world cells [] 0 [] temps names) ≡ NotMade Large
 not_made [] cells n temps names e le h = absurd (omega (arith, le, h))
 not_made (z ∷ zs) cells n temps names e le h =
-    either (may_make cells) _ (NotMade Large) (λ q.
-    ap (with_name (length cells)) (not_made zs (cells ++ holds z ∷ []) (n + 1) (length cells ∷ temps) names (one_longer cells (holds z) n e) (room_left cells n e q) (omega (arith, h))))
+    cond_both (may_make cells) _ (NotMade Large) (λ (m : Made). m ≡ NotMade Large) (λ q.
+    ap (with_name (length cells)) (not_made zs (cells ++ holds z ∷ []) (n + 1) (length cells ∷ temps) names (one_longer cells (holds z) n e) (room_left cells n e q) (omega (arith, h)))) (λ q. refl)
 
 -- ---- freeing
 
@@ -117,13 +114,7 @@ all_swept zs h n args top names e le =
 -- ---- what is left
 
 pub length-gone : (zs : List ℤ) → length (gone zs) ≡ length zs
-length-gone [] = refl
-length-gone (z ∷ zs) = ap suc (length-gone zs)
-
-living-append : (a b : Cells) → living (a ++ b) ≡ living a + living b
-living-append [] b = omega arith
-living-append (None ∷ a) b = living-append a b
-living-append (Some c ∷ a) b = omega (arith, living-append a b)
+length-gone zs = length-map zs (λ z. None)
 
 living-gone : (zs : List ℤ) → living (gone zs) ≡ 0
 living-gone [] = refl
@@ -131,4 +122,4 @@ living-gone (z ∷ zs) = living-gone zs
 
 -- no counted scalar is left
 pub none_left : (h : Cells) (zs : List ℤ) → 5 ≤ length h → live_of h ≡ 0 → live_of (h ++ gone zs) ≡ 0
-none_left h zs le e = ap living (drop-append-le 5 h (gone zs) le) ∙ omega (arith, living-append (drop 5 h) (gone zs), living-gone zs, e)
+none_left h zs le e = ap living (drop-append-le 5 h (gone zs) le) ∙ omega (arith, sum_by-append one_of (drop 5 h) (gone zs), living-gone zs, e)

@@ -1,6 +1,8 @@
 -- The intended tree of a module's glue has names and types, and its code is the glue code; so it is for each tree that is equal to it but for lines.
 use Rattle.std.proofs.Common.{◌≡◌, ℕ, ◌+◌, Bool, true, false, List, [], ◌∷◌, ◌++◌, codes, map, length, nat_lt, Some, None, Ok, refl, sym, ap, ap₂, ◌∙◌, subst, arith, append_assoc, append-nil}
 use Rattle.std.proofs.lemmas.Bool.Decides.{nat_tests}
+use Rattle.std.proofs.ByRecursion.{All-weaker}
+use Rattle.std.proofs.lemmas.Bool.{le-ltb}
 use Rattle.std.specs.Str.{bytes_eq}
 use Rattle.xs_base.specs.Reading.{◌>>=◌}
 use Rattle.xs_csyn.specs.declared.tree.PerlForm.TheVariants as form
@@ -10,7 +12,8 @@ use Rattle.xs_iface.specs.declared.xsub.Module.{Module}
 use Rattle.xs_iface.specs.declared.xsub.Param.{Param}
 use Rattle.xs_iface.specs.declared.xsub.Xsub.{Xsub}
 use Rattle.xs_iface.specs.Iface.{underscored}
-use Rattle.xs_iface.specs.SumForm.{All, Differ, IsSumModule, IsSumXsub}
+use Rattle.std.specs.List.{AllByRecursion as All}
+use Rattle.xs_iface.specs.SumForm.{Differ, IsSumModule, IsSumXsub}
 use Rattle.xs_iface.specs.Words.{is_free}
 use Rattle.xs_ccheck.proofs.Unlined.{types_without_lines}
 use Rattle.xs_ccheck.specs.declared.resolve_names.Local.{Local}
@@ -20,7 +23,7 @@ use Rattle.xs_ctok.specs.Words.{is_interface_word}
 use Rattle.xs_ccheck.specs.Typing.{Scope, behind_block, done, function, functions, is_boot_name, item, item_name, perl, place_of, stmt, typed_of, variable_of}
 use Rattle.xs_stub.specs.Intended.{boot_tree, declared_param, glue_tree, int_type, sv_pointer, work_of, xsub_tree}
 use Rattle.xs_call.specs.GlueCode.{block_of, boot_function, declarations, functions_on, glue_code, row_done, work, xsub_function}
-use Rattle.xs_call.proofs.TypedNames.{PlacedFrom, all_known, all_placed, differ_after, int_at, int_local, locals_from, no_param, no_retval, no_scalar, none_known, not_reserved, scalar_at, scalar_local}
+use Rattle.xs_call.proofs.TypedNames.{PlacedFrom, all_known, all_placed, differ_after, int_at, int_local, locals_from, no_param, no_retval, no_scalar, none_found, none_known, not_reserved, scalar_at, scalar_local}
 use Rattle.xs_call.proofs.TypedStatements.{Becomes, Nothing, Then, become, block, inputs_become, int_declared, joined, not_taken, params_declared, placed, registrations_become, return_becomes, scalar_declared, sum_becomes, usage_becomes, value_becomes, with_params}
 
 -- ---- the variables of an XSUB
@@ -51,16 +54,10 @@ unfolding is_interface_word
 scalar_free = refl
 
 no_param_retval : (ps : List Param) → All (λ p. is_free p.name ≡ true) ps → All (λ p. bytes_eq p.name (codes "RETVAL") ≡ false) ps
-no_param_retval [] free = tt
-no_param_retval (p ∷ ps) free = (no_retval p.name (not_reserved p.name free.0), no_param_retval ps free.1)
+no_param_retval = All-weaker (λ (p : Param). is_free p.name ≡ true) (λ (p : Param). bytes_eq p.name (codes "RETVAL") ≡ false) (λ p free. no_retval p.name (not_reserved p.name free))
 
 no_param_scalar : (ps : List Param) → All (λ p. is_free p.name ≡ true) ps → All (λ p. bytes_eq p.name (codes "RETVALSV") ≡ false) ps
-no_param_scalar [] free = tt
-no_param_scalar (p ∷ ps) free = (no_scalar p.name (not_reserved p.name free.0), no_param_scalar ps free.1)
-
-no_variable : (word : List ℕ) → variable_of [] word ≡ None
-unfolding variable_of
-no_variable word = refl
+no_param_scalar = All-weaker (λ (p : Param). is_free p.name ≡ true) (λ (p : Param). bytes_eq p.name (codes "RETVALSV") ≡ false) (λ p free. no_scalar p.name (not_reserved p.name free))
 
 only_retval : (slot : ℕ) → variable_of (int_local (codes "RETVAL") slot ∷ []) (codes "RETVALSV") ≡ None
 unfolding variable_of
@@ -76,7 +73,7 @@ second_result slot = refl
 
 retval_new : (ps : List Param) → All (λ p. is_free p.name ≡ true) ps → variable_of (locals_from 0 ps) (codes "RETVAL") ≡ None
 retval_new ps free =
-    ap (λ v. variable_of v (codes "RETVAL")) (sym (append-nil (locals_from 0 ps))) ∙ no_param (codes "RETVAL") 0 ps [] (no_param_retval ps free) ∙ no_variable (codes "RETVAL")
+    ap (λ v. variable_of v (codes "RETVAL")) (sym (append-nil (locals_from 0 ps))) ∙ no_param (codes "RETVAL") 0 ps [] (no_param_retval ps free) ∙ none_found (codes "RETVAL")
 
 scalar_new : (ps : List Param) (slot : ℕ) → All (λ p. is_free p.name ≡ true) ps → variable_of (locals_from 0 ps ++ int_local (codes "RETVAL") slot ∷ []) (codes "RETVALSV") ≡ None
 scalar_new ps slot free = no_param (codes "RETVALSV") 0 ps (int_local (codes "RETVAL") slot ∷ []) (no_param_scalar ps free) ∙ only_retval slot
@@ -147,14 +144,11 @@ is_boot : (name : List ℕ) → is_boot_name (codes "boot_" ++ name) ≡ true
 unfolding is_boot_name
 is_boot name = refl
 
-not_before : (at : ℕ) → nat_lt at at ≡ false
-not_before at = grind (arith, nat_tests)
-
 module _ (names : List (List ℕ)) where
   made : (at line : ℕ) (name : List ℕ) (in_boot : Bool) (all : List StmtTree) (ts : List Tree) (end : Scope) → is_boot_name name ≡ in_boot → Becomes names (beginning in_boot) all ts end → place_of names name ≡ Some at
       → function names at (record { line = line; name = name; body = stmts_of all }) ≡ Ok (record { name = name; is_boot = in_boot; slots = end.slots; body = block_of ts })
   unfolding function
-  made at line name in_boot all ts end e b k = rw (e, become names b, k, not_before at) refl
+  made at line name in_boot all ts end e b k = rw (e, become names b, k, le-ltb at at (omega arith)) refl
 
   entry_becomes : (line : ℕ) (in_boot : Bool) → stmt names (beginning in_boot) (syntax.Perl line form.DxsArgs) ≡ done (entered in_boot) (row_done Entry [])
   unfolding stmt perl
@@ -164,7 +158,7 @@ module _ (names : List (List ℕ)) where
   xsub_typed at x h k =
       made at x.line x.glue false _ _ (behind_block (within [] 0) (working x.params)) (glue_is_none x h)
       (Then (entry_becomes x.line false)
-      (Then (usage_becomes names (within [] 0) x.line x.params (no_variable (codes "items")) (omega (arith, h.few_params)))
+      (Then (usage_becomes names (within [] 0) x.line x.params (none_found (codes "items")) (omega (arith, h.few_params)))
       (Then (block names (within [] 0) x.line (work_of x) (work x) (working x.params) (work_becomes names x h)) Nothing))) k
       ∙ ap (λ n. Ok (record { name = x.glue; is_boot = false; slots = n; body = (xsub_function x).body })) (omega arith)
 

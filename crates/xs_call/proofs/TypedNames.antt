@@ -5,16 +5,16 @@ use Rattle.std.proofs.lemmas.Slice.Eq.{bytes_eq-Decides}
 use Rattle.std.specs.List.{list_any}
 use Rattle.std.specs.Str.{bytes_eq}
 use Rattle.xs_base.specs.Names.{is_among}
-use Rattle.xs_ctok.proofs.Values.{is_among-fewer}
 use Rattle.xs_iface.proofs.Noted.{same_both_ways}
 use Rattle.xs_iface.specs.declared.xsub.Param.{Param}
 use Rattle.xs_base.specs.Scanning.{is_identifier}
-use Rattle.xs_iface.specs.SumForm.{All, Differ}
+use Rattle.std.specs.List.{AllByRecursion as All}
+use Rattle.xs_iface.specs.SumForm.{Differ}
 use Rattle.xs_iface.specs.Words.{is_free, is_reserved, reserved_words}
 use Rattle.xs_ccheck.specs.declared.code.ValueType.TheVariants.{Number, Scalar}
 use Rattle.xs_ccheck.specs.declared.resolve_names.Found.{Found}
 use Rattle.xs_ccheck.specs.declared.resolve_names.Local.{Local}
-use Rattle.xs_ctok.specs.Words.{interface_words, is_interface_word}
+use Rattle.xs_ctok.specs.Words.{interface_words, is_interface_word, is_key_word, is_no_name, result_words}
 use Rattle.xs_ccheck.specs.Typing.{place_from, variable_of}
 use Rattle.xs_stub.specs.Stub.{name_or_nothing}
 use Rattle.xs_values.specs.declared.kind.Kind.TheVariants.{I32}
@@ -27,21 +27,27 @@ not_reserved word h = not-true (is_reserved word) (and_parts (is_identifier word
 pub same : (name : List ℕ) → bytes_eq name name ≡ true
 same name = (bytes_eq-Decides name name).1 refl
 
-pub no_interface_word : (word : List ℕ) → is_reserved word ≡ false → is_interface_word word ≡ false
-unfolding is_interface_word reserved_words
-no_interface_word word h = is_among-fewer reserved_words interface_words word refl h
+-- a word that is not reserved is no word of the XS interface and no variable of the glue's results
+own_word : (word : List ℕ) → is_reserved word ≡ false → (is_among interface_words word ≡ false) × (is_among result_words word ≡ false)
+own_word word h =
+    let key = (or_parts (is_key_word word) (is_among reserved_words word) h).0 in
+    or_parts (is_among interface_words word) (is_among result_words word) (or_parts (is_no_name word) (is_among interface_words word || is_among result_words word) key).1
 
--- a word that is not reserved is another than one that is
-other_word : (taken word : List ℕ) → is_reserved word ≡ false → (is_among reserved_words word ≡ false → is_among (taken ∷ []) word ≡ false) → bytes_eq word taken ≡ false
-other_word taken word h fewer = same_both_ways word taken ∙ (or_parts (bytes_eq taken word) false (fewer h)).0
+pub no_interface_word : (word : List ℕ) → is_reserved word ≡ false → is_interface_word word ≡ false
+unfolding is_interface_word
+no_interface_word word h = (own_word word h).0
+
+-- and is another than each of these variables
+results_differ : (word : List ℕ) → is_reserved word ≡ false → (bytes_eq (codes "RETVAL") word ≡ false) × (bytes_eq (codes "RETVALSV") word ≡ false)
+results_differ word h =
+    let each = or_parts (bytes_eq (codes "RETVAL") word) (bytes_eq (codes "RETVALSV") word || false) (own_word word h).1 in
+    (each.0, (or_parts (bytes_eq (codes "RETVALSV") word) false each.1).0)
 
 pub no_retval : (word : List ℕ) → is_reserved word ≡ false → bytes_eq word (codes "RETVAL") ≡ false
-unfolding reserved_words
-no_retval word h = other_word (codes "RETVAL") word h (is_among-fewer reserved_words (codes "RETVAL" ∷ []) word refl)
+no_retval word h = same_both_ways word (codes "RETVAL") ∙ (results_differ word h).0
 
 pub no_scalar : (word : List ℕ) → is_reserved word ≡ false → bytes_eq word (codes "RETVALSV") ≡ false
-unfolding reserved_words
-no_scalar word h = other_word (codes "RETVALSV") word h (is_among-fewer reserved_words (codes "RETVALSV" ∷ []) word refl)
+no_scalar word h = same_both_ways word (codes "RETVALSV") ∙ (results_differ word h).1
 
 -- ---- variables
 
@@ -86,7 +92,7 @@ found_here v all name h = ap (found_first v (variable_of all name)) h
 found_at_once : (v : Local) (all : List Local) → variable_of (v ∷ all) v.name ≡ Some (record { of_type = v.of_type; slot = v.slot })
 found_at_once v all = found_here v all v.name (same v.name)
 
-none_found : (name : List ℕ) → variable_of [] name ≡ None
+pub none_found : (name : List ℕ) → variable_of [] name ≡ None
 unfolding variable_of
 none_found name = refl
 

@@ -11,7 +11,8 @@ use Rattle.xs_iface.specs.declared.xsub.Param.{Param}
 use Rattle.xs_iface.specs.declared.xsub.Term.{Term}
 use Rattle.xs_iface.specs.declared.xsub.Term.TheVariants.{Literal, Parameter}
 use Rattle.xs_iface.specs.declared.xsub.Xsub.{Xsub}
-use Rattle.xs_iface.specs.SumForm.{All, Differ, IsTermOf}
+use Rattle.std.specs.List.{AllByRecursion as All}
+use Rattle.xs_iface.specs.SumForm.{Differ, IsTermOf}
 use Rattle.xs_iface.specs.Words.{is_free}
 use Rattle.xs_ccheck.specs.declared.code.ValueType.{ValueType}
 use Rattle.xs_ccheck.specs.declared.code.ValueType.TheVariants.{Number, Scalar, Void}
@@ -27,15 +28,13 @@ use Rattle.xs_values.proofs.Wrapping.{wrapped_value-held}
 use Rattle.xs_values.specs.declared.kind.Kind.TheVariants.{I32, I64, U64}
 use Rattle.xs_values.specs.Numbers.{IsInRange, wrapped}
 use Rattle.xs_call.specs.GlueCode.{assign_int, assign_scalar, block_of, declarations, inputs, int_literal, nothing_done, registrations, row_done, row_of, sum_on, sum_tree, term_tree, trees_of}
+use Rattle.xs_call.proofs.Numbers.{in_range}
 use Rattle.xs_call.proofs.TypedNames.{Known, PlacedFrom, Unknown, int_at, int_local, known_at, scalar_at, no_interface_word, not_reserved, unknown_after}
 
 -- ---- numbers
 
 int_kind : (v : ℕ) → v ≤ INT_MAX → literal_kind v ≡ I32
 int_kind v h = let small : nat_lt v 2147483648 ≡ true = grind (arith, nat_tests) in ap (λ b. cond b I32 (cond (nat_lt v (2 ^ 63)) I64 U64)) small
-
-in_range : (v : ℕ) → v ≤ INT_MAX → IsInRange I32 (pos v)
-in_range v h = record { low = omega (arith, ints); high = omega (arith, ints, h) }
 
 literal_typed : (v : ℕ) → v ≤ INT_MAX → literal v ≡ typed (int_literal v) (Number I32)
 literal_typed v h =

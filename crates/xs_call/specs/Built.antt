@@ -6,7 +6,7 @@ use Rattle.xs_base.specs.declared.place.FileOf.{FileOf}
 use Rattle.xs_base.specs.declared.place.FileOf.TheVariants.{Xs}
 use Rattle.xs_base.specs.declared.place.Line.{Line}
 use Rattle.xs_ctok.specs.Lexemes.{is_passed_line}
-use Rattle.xs_iface.specs.declared.drafts.TheConstants.{NOT_BUILT}
+use Rattle.xs_base.specs.Reading.{not_built_in}
 use Rattle.xs_iface.specs.Iface.{part_line}
 use Rattle.xs_sections.specs.Cut.{unless_fault}
 use Rattle.xs_iface.specs.Paragraph.{is_sum_paragraph}
@@ -33,10 +33,6 @@ unbuilt_part module_line (part ∷ parts) = if is_built part.body then unbuilt_p
 -- the line of the first form that is not built: the C part stands before the other parts
 unfoldable pub unbuilt_line : Sections → Option ℕ
 unbuilt_line s = option_or (unbuilt_c_line s.c_part) (unbuilt_part s.module_line s.parts)
-
--- the fault of a form that is not built yet
-abbrev pub not_built_in : FileOf → ℕ → Fault
-not_built_in file line = record { file = file; line = line; code = NOT_BUILT; word = [] }
 
 -- the refusal of a file with a form that is not built
 unfoldable pub built : Sections → Result (Unit {0}) Fault

@@ -4,8 +4,7 @@ use Rattle.std.specs.Prelude.{ℤ, ℕ, List, [], ◌∷◌, Option, None, Some,
 use Rattle.xs_base.specs.declared.fault.Fault.{Fault}
 use Rattle.xs_base.specs.declared.place.FileOf.TheVariants.{Script}
 use Rattle.xs_call.specs.declared.calls.CallCommand.{CallCommand}
-use Rattle.xs_call.specs.Built.{not_built_in}
-use Rattle.xs_iface.specs.Iface.{collect}
+use Rattle.xs_base.specs.Reading.{collect, not_built_in}
 use Rattle.xs_script.specs.Expr.{Expr, Num, Said, My, MyCall, Ro, CallSub, Show, Drop, Isa, Sub}
 use Rattle.xs_script.specs.declared.command.Number.TheVariants.{Int}
 

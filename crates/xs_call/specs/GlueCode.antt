@@ -1,5 +1,5 @@
 -- The resolved trees of a module's glue: what its glue text says once names are slots and each node has its type.
-use Rattle.std.specs.Prelude.{pos, ℕ, ◌+◌, true, false, List, [], ◌∷◌, ◌++◌, length, codes}
+use Rattle.std.specs.Prelude.{pos, ℕ, ◌+◌, true, false, List, [], ◌∷◌, ◌++◌, fold, length, map, codes}
 use Rattle.xs_iface.specs.Iface.{underscored}
 use Rattle.xs_iface.specs.declared.xsub.Module.{Module}
 use Rattle.xs_iface.specs.declared.xsub.Param.{Param}
@@ -72,8 +72,7 @@ term_tree (term.Literal value) = int_literal value
 
 -- a sum, which C groups from the left
 abbrev pub sum_on : Tree → List Term → Tree
-sum_on so_far [] = so_far
-sum_on so_far (t ∷ ts) = sum_on (Binary Add so_far (term_tree t)) ts
+sum_on = fold (λ so_far t. Binary Add so_far (term_tree t))
 
 abbrev pub sum_tree : List Term → Tree
 sum_tree [] = int_literal 0
@@ -110,8 +109,7 @@ abbrev pub boot_function : Module → Function
 boot_function m = record { name = codes "boot_" ++ underscored m.boot; is_boot = true; slots = 0; body = boot_body m.xsubs }
 
 abbrev pub functions_on : Function → List Xsub → List Function
-functions_on last [] = last ∷ []
-functions_on last (x ∷ xs) = xsub_function x ∷ functions_on last xs
+functions_on last xs = map xsub_function xs ++ last ∷ []
 
 -- the glue of a module: a function for each XSUB, in order, and the boot function
 unfoldable pub glue_code : Module → Code

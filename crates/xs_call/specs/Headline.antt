@@ -28,12 +28,16 @@ pub record IsExact (m : Mach World) (store : Store) : Type 0 where
   pub none_lives : live_of m.state.store.cells ≡ 0
   pub same_next : length m.state.store.cells ≡ length store
 
+-- both runs go on, and this holds of what they go on with; or both end
+abbrev pub BothGoOn : (Mach World → Store → Type 0) → Option (Mach World) → Option Store → Type 0
+BothGoOn holds None None = ⊤
+BothGoOn holds (Some m) (Some store) = holds m store
+BothGoOn holds None (Some store) = ⊥
+BothGoOn holds (Some m) None = ⊥
+
 -- both runs go on, the machine exact, and what follows holds; or both end
 abbrev pub exact_behind : Option (Mach World) → Option Store → (Mach World → Store → Type 0) → Type 0
-exact_behind None None after = ⊤
-exact_behind (Some m) (Some store) after = IsExact m store × after m store
-exact_behind None (Some store) after = ⊥
-exact_behind (Some m) None after = ⊥
+exact_behind machine store after = BothGoOn (λ m s. IsExact m s × after m s) machine store
 
 -- the machine is exact after each command that goes on
 abbrev pub exact_along : Module → Code → Mach World → Store → List CallCommand → Type 0

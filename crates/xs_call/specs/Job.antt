@@ -20,13 +20,21 @@ use Rattle.xs_script.specs.Script.{script_of}
 use Rattle.xs_sections.specs.Cut.{split_of}
 use Rattle.xs_stub.specs.Stub.{glue_text}
 
--- The transcript of a C text: it is read, its names are resolved, and the machine runs it.
+-- The code of a C text: it is read, and its names and types are resolved.
+abbrev pub code_of : List ℕ → Result Code Fault
+code_of text = file_of Text text >>= typed_of
+
+-- The transcript of a C text: the machine runs its code.
 unfoldable pub text_transcript : List ℕ → List CallCommand → Result (List ℕ) Fault
-text_transcript text cs = file_of Text text >>= λ tree. typed_of tree >>= λ code. Ok (machine_transcript code loaded cs)
+text_transcript text cs = code_of text >>= λ code. Ok (machine_transcript code loaded cs)
 
 -- The module of an XS file, or the first fault of the file.
 unfoldable pub module_in : List ℕ → Result Module Fault
 module_in xs = split_of xs >>= λ s. built s >>= λ taken. module_of s
+
+-- The calls of a script, or its first fault.
+abbrev pub calls_in : List ℕ → Result (List CallCommand) Fault
+calls_in script = script_of script >>= calls_said
 
 -- The job of `check`: the first fault of the XS file, if there is one.
 unfoldable pub check_of : List ℕ → Result (Unit {0}) Fault
@@ -38,7 +46,7 @@ compile_of xs = module_in xs >>= λ m. Ok (glue_text m)
 
 -- The job of `call`: the first fault of the XS file, or the first of the script, or the declared transcript.
 unfoldable pub call_of : List ℕ → List ℕ → Result (List ℕ) Fault
-call_of xs script = module_in xs >>= λ m. script_of script >>= λ said. calls_said said >>= λ cs. Ok (declared_transcript m cs)
+call_of xs script = module_in xs >>= λ m. calls_in script >>= λ cs. Ok (declared_transcript m cs)
 
 -- The C text that is written for a module, read and run, gives each call its declared meaning.
 abbrev pub TextRunsAsDeclared : Module → List CallCommand → Type 0
@@ -52,7 +60,7 @@ EachTextRunsAsDeclared = (xs : List ℕ) (m : Module) (cs : List CallCommand) �
 -- argument, mark, temporary or scope, and no counted scalar.
 pub record LeavesNothing (m : Module) (cs : List CallCommand) : Type 0 where
   pub code : Code
-  pub read : (file_of Text (glue_text m) >>= λ tree. typed_of tree) ≡ Ok code
+  pub read : code_of (glue_text m) ≡ Ok code
   pub exact : ExactAfter m code cs
 
 abbrev pub EachTextLeavesNothing : Type 0

@@ -7,9 +7,9 @@ use Rattle.xs_api.specs.declared.heap.Cell.{Cell}
 use Rattle.xs_machine.specs.declared.machine.Outcome.{Outcome}
 use Rattle.xs_machine.specs.declared.machine.Outcome.TheVariants as outcome
 use Rattle.xs_machine.specs.Machine.{Mach, booted, called, settled}
-use Rattle.xs_api.specs.Rows.{with_temp}
+use Rattle.xs_api.specs.Rows.{with_mortal}
 use Rattle.xs_ccheck.specs.Tree.{Code}
-use Rattle.xs_machine.specs.Views.{with_world}
+use Rattle.xs_machine.specs.Machine.{with_world}
 use Rattle.xs_api.specs.World.{Cells, World, cell_at, live_of, may_make, with_cells, with_new}
 use Rattle.xs_script.specs.ValueText.{value_text_of}
 use Rattle.xs_values.specs.declared.plain.Plain.TheVariants.{Int}
@@ -41,14 +41,10 @@ abbrev pub with_name : ℕ → Made → Made
 with_name n (AllMade names w) = AllMade (n ∷ names) w
 with_name n (NotMade trap) = NotMade trap
 
--- a new scalar with a number, which is a temporary
-abbrev pub with_argument : ℤ → World → World
-with_argument z w = with_temp (length w.cells) (with_cells (with_new (Int z) w.cells) w)
-
 -- the arguments of a call are made, each a new temporary
 abbrev pub args_made : List ℤ → World → Made
 args_made [] w = AllMade [] w
-args_made (z ∷ zs) w = if may_make w.cells then with_name (length w.cells) (args_made zs (with_argument z w)) else NotMade Large
+args_made (z ∷ zs) w = if may_make w.cells then with_name (length w.cells) (args_made zs (with_mortal (Int z) w)) else NotMade Large
 
 -- ---- commands
 

@@ -4,7 +4,7 @@ use Rattle.xs_call.specs.Running.{AllMade, NotMade, args_made}
 use Rattle.xs_call.specs.Transcript.{Told}
 use Rattle.xs_call.specs.declared.running.Telling.{Telling}
 use Rattle.xs_machine.specs.Machine.{Mach}
-use Rattle.xs_machine.specs.Views.{with_world}
+use Rattle.xs_machine.specs.Machine.{with_world}
 use Rattle.xs_api.specs.World.{World}
 use Rattle.xs_api.specs.declared.api.Stop.{Stop}
 use Rattle.xs_api.specs.declared.api.Stop.TheVariants as stop

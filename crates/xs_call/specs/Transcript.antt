@@ -1,9 +1,10 @@
 -- The lines of a transcript: what a script's caller is told of each command.
 use Rattle.std.specs.Fmt.{decimal}
+use Rattle.std.specs.List.{concat}
 use Rattle.std.specs.Prelude.{ℕ, ◌+◌, ◌==◌, List, [], ◌∷◌, ◌++◌, length, position, codes, Option, None, Some}
 use Rattle.xs_call.specs.declared.calls.CallCommand.{CallCommand}
 use Rattle.xs_script.specs.ValueText.{quoted_text}
-use Rattle.xs_stub.specs.Stub.{together}
+use Rattle.xs_stub.specs.Stub.{placed}
 use Rattle.xs_values.specs.declared.trap.Trap.{Trap}
 use Rattle.xs_values.specs.declared.trap.Trap.TheVariants.{Overflow, Zero, Shift, Unset, Null, Bounds, Kind, Freed, Gone, Stale, Scope, Large}
 
@@ -30,18 +31,18 @@ trap_name Large = codes "Large"
 
 -- `call LINE NAME`
 unfoldable pub call_text : CallCommand → List ℕ
-call_text c = together (codes "call " ∷ decimal c.line ∷ codes " " ∷ c.sub ∷ [])
+call_text c = concat (codes "call " ∷ decimal c.line ∷ codes " " ∷ c.sub ∷ [])
 
 -- what stands behind `call LINE NAME` and behind `boot`
 unfoldable pub returned_text : ℕ → List ℕ
-returned_text n = together (codes " returned " ∷ decimal n ∷ codes "\n" ∷ [])
+returned_text n = concat (codes " returned " ∷ decimal n ∷ codes "\n" ∷ [])
 
 unfoldable pub croaked_text : List ℕ → List ℕ
-croaked_text text = together (codes " croaked " ∷ quoted_text text ∷ codes "\n" ∷ [])
+croaked_text text = concat (codes " croaked " ∷ quoted_text text ∷ codes "\n" ∷ [])
 
 -- a trap in the work between the calls, and one that ends a call
 unfoldable pub own_trap_text : Trap → List ℕ
-own_trap_text trap = together (codes "trapped " ∷ trap_name trap ∷ codes "\n" ∷ [])
+own_trap_text trap = concat (codes "trapped " ∷ trap_name trap ∷ codes "\n" ∷ [])
 
 unfoldable pub trapped_text : Trap → List ℕ
 trapped_text trap = codes " " ++ own_trap_text trap
@@ -58,23 +59,21 @@ unfoldable pub alias_text : List ℕ → ℕ → List ℕ
 alias_text args name = alias_at (position (λ a. a == name) args)
 
 unfoldable pub item_line : (ℕ → List ℕ) → List ℕ → ℕ → ℕ → List ℕ
-item_line show args place name = together (codes "  item " ∷ decimal place ∷ codes " = " ∷ show name ∷ alias_text args name ∷ codes "\n" ∷ [])
+item_line show args place name = concat (codes "  item " ∷ decimal place ∷ codes " = " ∷ show name ∷ alias_text args name ∷ codes "\n" ∷ [])
 
 -- a line for each item, counted from a place
 abbrev pub item_lines : (ℕ → List ℕ) → List ℕ → ℕ → List ℕ → List ℕ
-item_lines show args place [] = []
-item_lines show args place (n ∷ ns) = item_line show args place n ++ item_lines show args (place + 1) ns
+item_lines show args = placed (item_line show args)
 
 unfoldable pub arg_line : (ℕ → List ℕ) → ℕ → ℕ → List ℕ
-arg_line show place name = together (codes "  arg " ∷ decimal place ∷ codes " = " ∷ show name ∷ codes "\n" ∷ [])
+arg_line show place name = concat (codes "  arg " ∷ decimal place ∷ codes " = " ∷ show name ∷ codes "\n" ∷ [])
 
 -- a line for each argument, counted from a place
 abbrev pub arg_lines : (ℕ → List ℕ) → ℕ → List ℕ → List ℕ
-arg_lines show place [] = []
-arg_lines show place (n ∷ ns) = arg_line show place n ++ arg_lines show (place + 1) ns
+arg_lines show = placed (arg_line show)
 
 unfoldable pub live_line : ℕ → ℕ → ℕ → List ℕ
-live_line live marks scopes = together (codes "  live " ∷ decimal live ∷ codes " marks " ∷ decimal marks ∷ codes " scopes " ∷ decimal scopes ∷ codes "\n" ∷ [])
+live_line live marks scopes = concat (codes "  live " ∷ decimal live ∷ codes " marks " ∷ decimal marks ∷ codes " scopes " ∷ decimal scopes ∷ codes "\n" ∷ [])
 
 -- the lines of an outcome: after a trap and a spent budget nothing follows
 abbrev pub end_lines : (ℕ → List ℕ) → List ℕ → CallEnd → List ℕ

@@ -1,12 +1,12 @@
 //! The forms of XS file that are built so far.
 ghost use Rattle.std.specs.Prelude.{◌≡◌, IfOk};
 ghost use Rattle.xs_base.specs.Reading.{Gives};
-ghost use Rattle.xs_call.specs.Built.{built, is_built, not_built_in, unbuilt_c_line, unbuilt_line, unbuilt_part};
+ghost use Rattle.xs_call.specs.Built.{built, is_built, unbuilt_c_line, unbuilt_line, unbuilt_part};
 
 use std::alloc::Global;
-use xs_base::{Bytes, Fault, FileOf, Line, Memory, Refuse};
+use xs_base::{Fault, FileOf, Line, Memory, Refuse};
 use xs_ctok::is_passed_line;
-use xs_iface::{NOT_BUILT, is_sum_xsub, part_line};
+use xs_iface::{is_sum_xsub, part_line};
 use xs_sections::{Part, PartBody, Sections};
 
 // The first line of the C part that is of no form that is built.
@@ -67,18 +67,6 @@ pub fn expect_built(alloc: Global, s: &Sections) -> Result<(), Refuse>
 {
     match unbuilt_line(alloc, s)? {
         None => Ok(()),
-        Some(line) => Err(not_built(alloc, FileOf::Xs, line)),
+        Some(line) => Err(Refuse::Fault(Fault::not_built(alloc, FileOf::Xs, line))),
     }
-}
-
-/// The refusal of a form that is not built yet.
-pub fn not_built(alloc: Global, file: FileOf, line: u32) -> Refuse
-    ensures { result ≡ Refuse.Fault (not_built_in file line) }
-{
-    Refuse::Fault(Fault {
-        file,
-        line,
-        code: NOT_BUILT,
-        word: Bytes::new(alloc),
-    })
 }

@@ -5,9 +5,8 @@ ghost use Rattle.xs_call.specs.Calls.{call_said, call_with, calls_said, int_of, 
 ghost use Rattle.xs_script.specs.Expr.{Num};
 ghost use Rattle.xs_script.specs.View.{plain, said};
 
-use crate::built::not_built;
 use std::alloc::Global;
-use xs_base::{Bytes, FileOf, Items, Memory, Refuse};
+use xs_base::{Bytes, Fault, FileOf, Items, Memory, Refuse};
 use xs_script::{Command, E, Number};
 
 /// A call of an XSUB in list form.
@@ -64,7 +63,7 @@ fn int_values(alloc: Global, es: &[E]) -> Result<Option<Items<i64>>, Memory>
 fn not_built_at(alloc: Global, line: u32) -> Refuse
     ensures { result ≡ Refuse.Fault (not_built_at line) }
 {
-    not_built(alloc, FileOf::Script, line)
+    Refuse::Fault(Fault::not_built(alloc, FileOf::Script, line))
 }
 
 fn call_with(alloc: Global, line: u32, sub: &Bytes, args: &[E]) -> Result<CallCommand, Refuse>

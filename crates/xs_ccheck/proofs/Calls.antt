@@ -1,5 +1,5 @@
 -- Calls, rule by rule.
-use Rattle.std.proofs.Common.{◌≡◌, ℕ, suc, true, false, List, [], ◌∷◌, length, map, Result, Ok, Err, refl, ap}
+use Rattle.std.proofs.Common.{◌≡◌, ℕ, suc, true, false, List, [], ◌∷◌, length, map, Ok, Err, refl, ap}
 use Rattle.std.specs.Str.{bytes_eq}
 use Rattle.xs_base.specs.declared.fault.Fault.{Fault}
 use Rattle.xs_base.specs.declared.fault.Refuse.{Refuse}
@@ -8,13 +8,8 @@ use Rattle.xs_base.specs.Reading.{Fails}
 use Rattle.xs_csyn.specs.declared.tree.Expr.{Expr}
 use Rattle.xs_csyn.specs.Tree.{ExprTrees, Call, exprs_of}
 use Rattle.xs_csyn.specs.View.{plain}
-use Rattle.xs_ccheck.specs.declared.resolve_exprs.TypedNode.{TypedNode}
 use Rattle.xs_ccheck.specs.declared.resolve_names.Local.{Local}
-use Rattle.xs_ccheck.specs.declared.resolve_nodes.Nodes.{Nodes}
-use Rattle.xs_ccheck.specs.Growth.{Keeps}
-use Rattle.xs_ccheck.specs.Resolving.{GivesExpr}
-use Rattle.xs_ccheck.specs.Typing.{Typed_tree, Operands, expr, exprs, usage, usage_word, called, wanted, row_named, expr_count}
-use Rattle.xs_ccheck.proofs.Kept.{keeps_on}
+use Rattle.xs_ccheck.specs.Typing.{Operands, expr, exprs, usage, usage_word, called, wanted, row_named, expr_count}
 
 pub call_usage : (locals : List Local) (line : ℕ) (name : List ℕ) (args : ExprTrees) → bytes_eq name usage_word ≡ true → expr locals (Call line name args) ≡ usage line args
 unfolding expr
@@ -35,7 +30,3 @@ call_fails locals line name args (refuse.Fault f) h k = call_refused locals line
 pub count_is : (args : List Expr) → expr_count (exprs_of (map plain args)) ≡ length args
 count_is [] = refl
 count_is (a ∷ all) = ap suc (count_is all)
-
-pub on_from : (r : Result TypedNode Refuse) (a b c : Nodes) (read : Result Typed_tree Fault) → Keeps a b → GivesExpr r b c read → GivesExpr r a c read
-on_from (Ok x) a b c read k h = record { means = h.means; below = h.below; keeps = keeps_on a b c k h.keeps }
-on_from (Err e) a b c read k h = h

@@ -1,15 +1,11 @@
 -- A tree opens into the trees of its parts.
 use Rattle.std.proofs.Common.{◌≡◌, ℕ, zero, suc, ◌<◌, true, List, Option, Some, None, refl, ap, ◌∙◌, arith}
 use Rattle.std.specs.Prelude.{slice_get, nat_lt}
-use Rattle.std.proofs.lemmas.Bool.{and_parts}
-use Rattle.std.proofs.lemmas.Bool.Decides.{nat_tests}
+use Rattle.std.proofs.lemmas.Bool.{and_parts, ltb-true}
 use Rattle.xs_ccheck.specs.declared.code.Node.{Node}
 use Rattle.xs_ccheck.specs.declared.code.Node.TheVariants as node
 use Rattle.xs_ccheck.specs.Tree.{Tree, Assign, Binary, Convert, ApiRow, Block, If, Forget, Trees, MoreTrees}
 use Rattle.xs_ccheck.specs.Arena.{row_of, tree_from, trees_from, forest_to, tree_at, trees_at, is_before, InOrder}
-
-pub below : (j i : ℕ) → nat_lt j i ≡ true → j < i
-below j i e = grind (arith, nat_tests)
 
 -- two ways to look parts up that agree on what stands before a place
 pub record Agree (i : ℕ) (f g : ℕ → Tree) (h k : ℕ → Trees) : Type 0 where
@@ -18,10 +14,10 @@ pub record Agree (i : ℕ) (f g : ℕ → Tree) (h k : ℕ → Trees) : Type 0 w
 
 module _ (texts : List (List ℕ)) (i : ℕ) (f g : ℕ → Tree) (h k : ℕ → Trees) (same : Agree i f g h k) where
   part : (j : ℕ) → nat_lt j i ≡ true → f j ≡ g j
-  part j e = same.tree j (below j i e)
+  part j e = same.tree j (ltb-true j i e)
 
   parts : (j : ℕ) → nat_lt j i ≡ true → h j ≡ k j
-  parts j e = same.trees j (below j i e)
+  parts j e = same.trees j (ltb-true j i e)
 
   same_tree : (n : Node) → is_before i n ≡ true → tree_from texts (Some n) f h ≡ tree_from texts (Some n) g k
   same_tree (node.Literal n) b = refl

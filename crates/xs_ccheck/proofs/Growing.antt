@@ -1,9 +1,10 @@
 -- Nodes and texts that are added behind others change no tree.
-use Rattle.std.proofs.Common.{append-nil, ◌≡◌, ℕ, zero, suc, ◌<◌, Bool, true, false, List, [], ◌∷◌, ◌++◌, length, map, Option, Some, None, refl, sym, ap, ◌∙◌, subst, arith}
+use Rattle.std.proofs.Common.{append-nil, ◌+◌, ◌≡◌, ℕ, zero, suc, ◌<◌, Bool, true, false, List, [], ◌∷◌, ◌++◌, length, map, Option, Some, None, refl, sym, ap, ◌∙◌, subst, arith}
 use Rattle.std.specs.Prelude.{cond, slice_get, slice_index_or, nat_lt}
+use Rattle.std.proofs.lemmas.Bool.{ltb-true}
 use Rattle.std.proofs.lemmas.Bool.Decides.{nat_tests}
-use Rattle.std.proofs.lemmas.List.{get_or_append_left}
-use Rattle.std.proofs.Math.ListN.{length-append}
+use Rattle.std.proofs.lemmas.List.{get_or_append_left, length_push}
+use Rattle.std.proofs.lemmas.Option.{same_Some}
 use Rattle.xs_ccheck.specs.declared.code.FunctionNode.{FunctionNode}
 use Rattle.xs_ccheck.specs.declared.code.Node.{Node}
 use Rattle.xs_ccheck.specs.declared.code.Node.TheVariants as node
@@ -12,7 +13,7 @@ use Rattle.xs_ccheck.specs.declared.code.RowNode.TheVariants as row
 use Rattle.xs_ccheck.specs.Tree.{Tree, Trees, CroakUsage, NewXs, ApiRow}
 use Rattle.xs_ccheck.specs.Arena.{row_of, tree_from, trees_from, forest_to, tree_at, trees_at, is_before, InOrder, function_of}
 use Rattle.xs_ccheck.specs.Placed.{row_has_text, has_text, HasTexts, HasBodies}
-use Rattle.xs_ccheck.proofs.Forest.{Agree, below, opens_tree, opens_trees, tree_opens, trees_open}
+use Rattle.xs_ccheck.proofs.Forest.{Agree, opens_tree, opens_trees, tree_opens, trees_open}
 
 pub get_left : {X : Type 0} (xs ys : List X) (i : ℕ) → i < length xs → slice_get (xs ++ ys) i ≡ slice_get xs i
 get_left [] ys i h = absurd (omega (arith, h))
@@ -23,11 +24,8 @@ pub get_seam : {X : Type 0} (xs : List X) (y : X) (ys : List X) → slice_get (x
 get_seam [] y ys = refl
 get_seam (x ∷ xs) y ys = get_seam xs y ys
 
-pub some_same : {X : Type 0} (a b : X) → Some a ≡ Some b → a ≡ b
-some_same a b e = cc
-
 text_same : (texts more : List (List ℕ)) (t : ℕ) → nat_lt t (length texts) ≡ true → slice_index_or (texts ++ more) t [] ≡ slice_index_or texts t []
-text_same texts more t h = get_or_append_left texts more [] t (below t (length texts) h)
+text_same texts more t h = get_or_append_left texts more [] t (ltb-true t (length texts) h)
 
 pub row_same : (texts more : List (List ℕ)) (r : RowNode) → row_has_text (length texts) r ≡ true → row_of (texts ++ more) r ≡ row_of texts r
 row_same texts more row.Entry h = refl
@@ -108,23 +106,20 @@ module _ (texts : List (List ℕ)) (nodes : List Node) (n : Node) (ord : InOrder
     tree_added =
         tree_opens texts (nodes ++ n ∷ []) (length nodes) ord1
         ∙ ap (λ o. tree_from texts o (tree_at texts (nodes ++ n ∷ [])) (trees_at texts (nodes ++ n ∷ []))) at_seam
-        ∙ opens_tree texts (length nodes) _ _ _ _ seam (Some n) (λ m e. subst (λ x. is_before (length nodes) x ≡ true) (some_same n m e) before)
+        ∙ opens_tree texts (length nodes) _ _ _ _ seam (Some n) (λ m e. subst (λ x. is_before (length nodes) x ≡ true) (same_Some n m e) before)
 
     pub trees_added : trees_at texts (nodes ++ n ∷ []) (length nodes) ≡ trees_from (Some n) (tree_at texts nodes) (trees_at texts nodes)
     trees_added =
         trees_open texts (nodes ++ n ∷ []) (length nodes) ord1
         ∙ ap (λ o. trees_from o (tree_at texts (nodes ++ n ∷ [])) (trees_at texts (nodes ++ n ∷ []))) at_seam
-        ∙ opens_trees texts (length nodes) _ _ _ _ seam (Some n) (λ m e. subst (λ x. is_before (length nodes) x ≡ true) (some_same n m e) before)
+        ∙ opens_trees texts (length nodes) _ _ _ _ seam (Some n) (λ m e. subst (λ x. is_before (length nodes) x ≡ true) (same_Some n m e) before)
 
 -- ---- more texts
 
-lt_more : (t count : ℕ) → nat_lt t count ≡ true → nat_lt t (suc count) ≡ true
+lt_more : (t count : ℕ) → nat_lt t count ≡ true → nat_lt t (count + 1) ≡ true
 lt_more t count h = grind (arith, nat_tests)
 
-count_more : (texts : List (List ℕ)) (text : List ℕ) → length (texts ++ text ∷ []) ≡ suc (length texts)
-count_more texts text = omega (arith, length-append texts (text ∷ []))
-
-row_more : (count : ℕ) (r : RowNode) → row_has_text count r ≡ true → row_has_text (suc count) r ≡ true
+row_more : (count : ℕ) (r : RowNode) → row_has_text count r ≡ true → row_has_text (count + 1) r ≡ true
 row_more count row.Entry h = refl
 row_more count row.StRead h = refl
 row_more count row.SvIv h = refl
@@ -136,7 +131,7 @@ row_more count row.XsReturnYes h = refl
 row_more count (row.CroakUsage t) h = lt_more t count h
 row_more count (row.NewXs t f) h = lt_more t count h
 
-node_more : (count : ℕ) (n : Node) → has_text count n ≡ true → has_text (suc count) n ≡ true
+node_more : (count : ℕ) (n : Node) → has_text count n ≡ true → has_text (count + 1) n ≡ true
 node_more count (node.Literal n) h = refl
 node_more count (node.Variable x) h = refl
 node_more count node.ItemCount h = refl
@@ -152,7 +147,7 @@ node_more count node.NoTrees h = refl
 node_more count (node.MoreTrees t ts) h = refl
 
 pub texts_more : (texts : List (List ℕ)) (text : List ℕ) (nodes : List Node) → HasTexts texts nodes → HasTexts (texts ++ text ∷ []) nodes
-texts_more texts text nodes has = record { each = λ i n e. subst (λ count. has_text count n ≡ true) (sym (count_more texts text)) (node_more (length texts) n (has.each i n e)) }
+texts_more texts text nodes has = record { each = λ i n e. subst (λ count. has_text count n ≡ true) (sym (length_push texts text)) (node_more (length texts) n (has.each i n e)) }
 
 pub texts_maybe : (b : Bool) (texts : List (List ℕ)) (text : List ℕ) (nodes : List Node) → HasTexts texts nodes → HasTexts (cond b (texts ++ text ∷ []) texts) nodes
 texts_maybe true texts text nodes has = texts_more texts text nodes has

@@ -1,15 +1,9 @@
 -- Statements, rule by rule.
-use Rattle.std.proofs.Common.{◌≡◌, ℕ, true, List, Result, Ok, Err, refl}
-use Rattle.xs_base.specs.declared.fault.Fault.{Fault}
-use Rattle.xs_base.specs.declared.fault.Refuse.{Refuse}
+use Rattle.std.proofs.Common.{◌≡◌, ℕ, true, List, Ok, refl}
 use Rattle.xs_csyn.specs.Tree as syntax
 use Rattle.xs_csyn.specs.Tree.{ExprTree, StmtTree, StmtTrees, MoreStmts}
-use Rattle.xs_ccheck.specs.declared.resolve_nodes.Nodes.{Nodes}
-use Rattle.xs_ccheck.specs.Growth.{Keeps}
-use Rattle.xs_ccheck.specs.ResolvingStmts.{GivesDone}
 use Rattle.xs_ccheck.specs.Tree.{Tree, Trees, Block, If, Forget, NoTrees, MoreTrees}
-use Rattle.xs_ccheck.specs.Typing.{Typed_tree, Done, Scope, done, behind_block, expr, stmt, stmts, is_condition}
-use Rattle.xs_ccheck.proofs.Kept.{keeps_on}
+use Rattle.xs_ccheck.specs.Typing.{Typed_tree, Scope, done, behind_block, expr, stmt, stmts, is_condition}
 
 pub block_done : (names : List (List ℕ)) (scope inner : Scope) (line : ℕ) (body : StmtTrees) (ts : Trees) → stmts names scope body ≡ Ok (record { tree = ts; scope = inner }) → stmt names scope (syntax.Block line body) ≡ done (behind_block scope inner) (Block ts)
 unfolding stmt
@@ -26,7 +20,3 @@ if_done names scope behind line test then_do x t k h s = rw (k, h, s) refl
 pub more_done : (names : List (List ℕ)) (scope one two : Scope) (s : StmtTree) (all : StmtTrees) (t : Tree) (ts : Trees) → stmt names scope s ≡ Ok (record { tree = t; scope = one }) → stmts names one all ≡ Ok (record { tree = ts; scope = two }) → stmts names scope (MoreStmts s all) ≡ Ok (record { tree = MoreTrees t ts; scope = two })
 unfolding stmt
 more_done names scope one two s all t ts k m = rw (k, m) refl
-
-pub done_from : {T : Type 0} (at : Nodes → ℕ → T) (r : Result ℕ Refuse) (a b c : Nodes) (scope : Scope) (read : Result (Done T) Fault) → Keeps a b → GivesDone at r b c scope read → GivesDone at r a c scope read
-done_from at (Ok x) a b c scope read k h = record { means = h.means; below = h.below; keeps = keeps_on a b c k h.keeps }
-done_from at (Err e) a b c scope read k h = h

@@ -1,6 +1,8 @@
 -- Names and types do not depend on lines: two trees that are equal but for lines have the same code, or neither has any.
 use Rattle.std.proofs.Common.{◌≡◌, ℕ, ◌+◌, suc, Bool, true, false, cond, List, [], ◌∷◌, ◌++◌, map, codes, Option, None, Some, Result, Ok, Err, refl, sym, ap, ◌∙◌}
+use Rattle.std.specs.Result.{result_ok}
 use Rattle.std.specs.Str.{bytes_eq}
+use Rattle.std.proofs.lemmas.Option.{same_Some}
 use Rattle.xs_base.specs.Reading.{◌>>=◌}
 use Rattle.xs_base.specs.declared.fault.Fault.{Fault}
 use Rattle.xs_csyn.specs.declared.tree.BinaryOp.{BinaryOp}
@@ -16,14 +18,9 @@ use Rattle.xs_ccheck.specs.declared.resolve_names.OperandSort.{OperandSort}
 use Rattle.xs_ccheck.specs.Tree.{Row, Tree, Function, Code}
 use Rattle.xs_ccheck.specs.Typing.{Typed_tree, Operands, Target, To_variable, To_item, Scope, expr, exprs, place_in, stmt, stmts, perl, function, functions, item, item_name, item_place, typed_of, use_of, target, put, operated_type, operated_as, cast_from, type_named, row_named, others, wanted, expr_count, called, usage, usage_of, usage_word, is_cv, text_in, is_number, is_scalar, goes_into, is_condition, a_condition, declared, is_taken, registered_as, place_of, variable_of, at_begin, is_earlier}
 
--- what a result gives, where it is no fault
-abbrev given : {A : Type 0} → Result A Fault → Option A
-given (Ok a) = Some a
-given (Err fault) = None
-
 -- Two results give the same.
 record Alike {A : Type 0} (r s : Result A Fault) : Type 0 where
-  is : given r ≡ given s
+  is : result_ok r ≡ result_ok s
 
 alike : {A : Type 0} (r : Result A Fault) → Alike r r
 alike r = record { is = refl }
@@ -31,11 +28,8 @@ alike r = record { is = refl }
 faults : {A : Type 0} (f g : Fault) → Alike {A = A} (Err f) (Err g)
 faults f g = record { is = refl }
 
-same_value : {A : Type 0} (a b : A) → Some a ≡ Some b → a ≡ b
-same_value a b e = ap (λ o. elim o [ Some c ↦ c | None ↦ a ]) e
-
 behind : {A B : Type 0} (r s : Result A Fault) (k l : A → Result B Fault) → Alike r s → ((a : A) → Alike (k a) (l a)) → Alike (r >>= k) (s >>= l)
-behind (Ok a) (Ok b) k l h then_is = record { is = (then_is a).is ∙ ap (λ c. given (l c)) (same_value a b h.is) }
+behind (Ok a) (Ok b) k l h then_is = record { is = (then_is a).is ∙ ap (λ c. result_ok (l c)) (same_Some a b h.is) }
 behind (Err f) (Err g) k l h then_is = record { is = refl }
 behind (Ok a) (Err g) k l h then_is = let e = h.is in absurd cc
 behind (Err f) (Ok b) k l h then_is = let e = h.is in absurd cc
@@ -105,14 +99,14 @@ usage_of_alike line false text = faults _ _
 usage_alike : (line : ℕ) (args : ExprTrees) → Alike (usage line args) (usage 0 (unlined_exprs args))
 usage_alike line NoExprs = faults _ _
 usage_alike line (MoreExprs a NoExprs) = faults _ _
-usage_alike line (MoreExprs a (MoreExprs b NoExprs)) = record { is = (usage_of_alike line (is_cv a) (text_in b)).is ∙ ap (λ c. given (usage_of 0 c (text_in b))) (cv_alike a) ∙ ap (λ t. given (usage_of 0 (is_cv (unlined_expr a)) t)) (text_alike b) }
+usage_alike line (MoreExprs a (MoreExprs b NoExprs)) = record { is = (usage_of_alike line (is_cv a) (text_in b)).is ∙ ap (λ c. result_ok (usage_of 0 c (text_in b))) (cv_alike a) ∙ ap (λ t. result_ok (usage_of 0 (is_cv (unlined_expr a)) t)) (text_alike b) }
 usage_alike line (MoreExprs a (MoreExprs b (MoreExprs c more))) = faults _ _
 
 -- a call of a name, where its operands are alike
 call_alike : (line : ℕ) (name : List ℕ) (args : ExprTrees) (r s : Result Operands Fault) → Alike r s
     → Alike (r >>= called line name (expr_count args) (row_named name)) (s >>= called 0 name (expr_count (unlined_exprs args)) (row_named name))
 call_alike line name args r s h =
-    behind r s _ _ h (λ xs. record { is = (called_alike line name (expr_count args) (row_named name) xs).is ∙ ap (λ n. given (called 0 name n (row_named name) xs)) (count_alike args) })
+    behind r s _ _ h (λ xs. record { is = (called_alike line name (expr_count args) (row_named name) xs).is ∙ ap (λ n. result_ok (called 0 name n (row_named name) xs)) (count_alike args) })
 
 module _ (variables : List Local) where
   mutual
@@ -194,15 +188,15 @@ unfolding typed_of
 file_alike t =
     record {
       is = (behind _ _ _ _ (functions_alike (map item_name t.items) 0 [] t.items) (λ all. alike _)).is
-          ∙ ap (λ names. given (functions names 0 [] (map unlined_item t.items) >>= λ all. Ok (record { functions = all }))) (names_alike t.items);
+          ∙ ap (λ names. result_ok (functions names 0 [] (map unlined_item t.items) >>= λ all. Ok (record { functions = all }))) (names_alike t.items);
     }
 
-given_is : {A : Type 0} (r : Result A Fault) (a : A) → given r ≡ Some a → r ≡ Ok a
-given_is (Ok b) a e = ap Ok (same_value b a e)
+given_is : {A : Type 0} (r : Result A Fault) (a : A) → result_ok r ≡ Some a → r ≡ Ok a
+given_is (Ok b) a e = ap Ok (same_Some b a e)
 given_is (Err f) a e = absurd cc
 
 -- A tree that is equal to another but for lines has the other's code.
 pub types_without_lines : (t u : FileTree) (code : Code) → typed_of t ≡ Ok code → unlined t ≡ unlined u → typed_of u ≡ Ok code
 types_without_lines t u code typed same =
     given_is (typed_of u) code
-    ((file_alike u).is ∙ sym (ap (λ x. given (typed_of x)) same) ∙ sym (file_alike t).is ∙ ap given typed)
+    ((file_alike u).is ∙ sym (ap (λ x. result_ok (typed_of x)) same) ∙ sym (file_alike t).is ∙ ap result_ok typed)

@@ -1,5 +1,5 @@
 -- The trees that the nodes of a vector stand for.
-use Rattle.std.specs.Prelude.{◌≡◌, ℕ, zero, suc, Bool, true, ◌&&◌, nat_lt, List, [], Option, Some, None, slice_get, slice_index_or}
+use Rattle.std.specs.Prelude.{◌≡◌, ℕ, zero, suc, Bool, true, ◌&&◌, nat_lt, List, [], Option, Some, slice_get, slice_index_or}
 use Rattle.xs_ccheck.specs.declared.code.Node.{Node}
 use Rattle.xs_ccheck.specs.declared.code.Node.TheVariants as node
 use Rattle.xs_ccheck.specs.declared.code.RowNode.{RowNode}

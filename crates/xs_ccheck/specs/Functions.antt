@@ -1,5 +1,6 @@
 -- The functions of resolved code: by their numbers, and the boot function among them.
-use Rattle.std.specs.Prelude.{◌≡◌, ℕ, suc, cond, List, [], ◌∷◌, map, Option, Some, None, slice_get}
+use Rattle.std.specs.Prelude.{◌≡◌, ℕ, List, [], map, Option, Some, None, slice_get}
+use Rattle.std.specs.List.{position_from}
 use Rattle.xs_ccheck.specs.declared.code.Callable.{Callable}
 use Rattle.xs_ccheck.specs.declared.code.Typed.{Typed}
 use Rattle.xs_ccheck.specs.Arena.{function_of, tree_at}
@@ -16,8 +17,7 @@ function_at code (Some f) = slice_get code.functions f
 
 -- the number of the boot function
 abbrev pub boot_from : ℕ → List Function → Option ℕ
-boot_from n [] = None
-boot_from n (f ∷ all) = cond f.is_boot (Some n) (boot_from (suc n) all)
+boot_from n all = position_from (λ f. f.is_boot) n all
 
 abbrev pub boot_at : Code → Option ℕ
 boot_at code = boot_from 0 code.functions

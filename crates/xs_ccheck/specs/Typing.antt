@@ -1,11 +1,13 @@
 -- The types stage: what the tree of a C file means once its names are resolved and its types are checked. The first fault in the order of
 -- the text is told, where a node's own fault comes behind those of its parts.
 use Rattle.std.specs.Prelude.{ℕ, suc, ◌+◌, ◌^◌, pos, Bool, true, false, ◌&&◌, ◌||◌, cond, nat_lt, nat_eq, List, [], ◌∷◌, ◌++◌, map, length, take, Option, Some, None, Result, Ok, Err, codes}
-use Rattle.std.specs.List.{count_by, list_any, starts_with}
+use Rattle.std.specs.List.{position_from, starts_with}
+use Rattle.std.specs.Map.{lookup}
+use Rattle.std.specs.Option.{is_some}
 use Rattle.std.specs.Str.{bytes_eq}
 use Rattle.xs_base.specs.declared.fault.Fault.{Fault}
 use Rattle.xs_base.specs.declared.place.FileOf.TheVariants as file
-use Rattle.xs_base.specs.Reading.{◌>>=◌}
+use Rattle.xs_base.specs.Reading.{◌>>=◌, fault_in}
 use Rattle.xs_values.specs.declared.kind.Kind.{Kind}
 use Rattle.xs_values.specs.declared.kind.Kind.TheVariants.{I32, I64, U64}
 use Rattle.xs_values.specs.declared.operator.Op.{Op}
@@ -30,8 +32,9 @@ use Rattle.xs_ccheck.specs.Tree.{Row, Entry, StRead, SvIv, SvNewMortal, SvSetIv,
 
 -- ---- faults
 
+-- a fault of the glue text
 abbrev pub fault : ℕ → ℕ → List ℕ → Fault
-fault line code word = record { file = file.Text; line = line; code = code; word = word }
+fault = fault_in file.Text
 
 abbrev pub types_differ : ℕ → Fault
 types_differ line = fault line 803 []
@@ -56,9 +59,13 @@ pub record Scope : Type 0 where
   pub entered : Bool
   pub in_boot : Bool
 
+-- a variable under its name
+abbrev pub named : Local → List ℕ × Found
+named v = (v.name, record { of_type = v.of_type; slot = v.slot })
+
+-- the first variable of a name
 unfoldable pub variable_of : List Local → List ℕ → Option Found
-variable_of [] name = None
-variable_of (v ∷ all) name = cond (bytes_eq v.name name) (Some (record { of_type = v.of_type; slot = v.slot })) (variable_of all name)
+variable_of variables name = lookup (λ n. bytes_eq n name) (map named variables)
 
 -- ---- types
 
@@ -289,19 +296,19 @@ done scope t = Ok (record { tree = t; scope = scope })
 abbrev pub row_done : Scope → Row → Result (Done Tree) Fault
 row_done scope row = done scope (Forget (ApiRow row NoTrees))
 
--- the scope behind a block: the variables of the block are known no more, and their slots are not used again
+-- a scope in which the first so many variables are known still, and the slots of the others are not used again
+abbrev pub knowing : ℕ → Scope → Scope
+knowing count scope = record { variables = take count scope.variables; slots = scope.slots; entered = scope.entered; in_boot = scope.in_boot }
+
+-- the scope behind a block: the variables of the block are known no more
 abbrev pub behind_block : Scope → Scope → Scope
-behind_block scope inner = record { variables = take (length scope.variables) inner.variables; slots = inner.slots; entered = inner.entered; in_boot = inner.in_boot }
+behind_block scope inner = knowing (length scope.variables) inner
 
 abbrev pub with_variable : Scope → List ℕ → ValueType → Scope
 with_variable scope name t = record { variables = scope.variables ++ record { name = name; of_type = t; slot = scope.slots } ∷ []; slots = scope.slots + 1; entered = scope.entered; in_boot = scope.in_boot }
 
 abbrev pub with_entry : Scope → Scope
 with_entry scope = record { variables = scope.variables; slots = scope.slots; entered = true; in_boot = scope.in_boot }
-
-abbrev pub is_some : {A : Type 0} → Option A → Bool
-is_some None = false
-is_some (Some a) = true
 
 -- whether a name may not be declared: it is known here, in this block or an outer one, or means something to the XS interface
 unfoldable pub is_taken : List Local → List ℕ → Bool
@@ -326,8 +333,7 @@ registered_as line scope full function (Some f) = cond scope.in_boot (row_done s
 
 -- where a name stands among the names of a file's functions
 abbrev pub place_from : ℕ → List (List ℕ) → List ℕ → Option ℕ
-place_from i [] name = None
-place_from i (n ∷ names) name = cond (bytes_eq n name) (Some i) (place_from (i + 1) names name)
+place_from i names name = position_from (λ n. bytes_eq n name) i names
 
 unfoldable pub place_of : List (List ℕ) → List ℕ → Option ℕ
 place_of names name = place_from 0 names name

@@ -1,8 +1,6 @@
 //! The types stage: a C file becomes code whose names are resolved and whose types are checked.
-ghost use Rattle.std.specs.List.{starts_with};
-ghost use Rattle.std.specs.Prelude.{◌≡◌, ◌<◌, ◌↔◌, IsTrue, map, []};
+ghost use Rattle.std.specs.Prelude.{◌≡◌, ◌<◌, map, []};
 ghost use Rattle.xs_base.specs.Reading.{GivesBy};
-ghost use Rattle.xs_base.specs.declared.fault.Refuse.TheVariants as refuse;
 ghost use Rattle.xs_csyn.specs.View.{file_tree, function_tree, item_tree};
 ghost use Rattle.xs_ccheck.specs.Functions.{code_of};
 ghost use Rattle.xs_ccheck.specs.Growth.{functions_in};
@@ -11,11 +9,11 @@ ghost use Rattle.xs_ccheck.specs.Typing as spec;
 
 use crate::Typed;
 use crate::code::{FunctionNode, Node};
-use crate::resolve_names::{Scope, fault};
+use crate::resolve_names::{Scope, declared_twice};
 use crate::resolve_nodes::Nodes;
 use crate::resolve_stmts::{place_of, stmts};
 use std::alloc::Global;
-use xs_base::{Bytes, Refuse};
+use xs_base::Refuse;
 use xs_csyn::{CFile, FileItem, XsFun};
 
 // Whether a function of this name is the boot function.
@@ -36,12 +34,6 @@ fn is_earlier(place: Option<usize>, at: usize) -> bool
     }
 }
 
-fn named_anew(line: u32, name: Bytes) -> Refuse
-    ensures { result ≡ refuse.Fault (spec.declared_twice line name) }
-{
-    Refuse::Fault(fault(line, 804, name))
-}
-
 // The function at a place among the file's functions.
 #[tactic(auto, unfolding(crate::specs::Typing::function))]
 fn function(
@@ -59,7 +51,7 @@ fn function(
     let statements = stmts(alloc, nodes, &mut scope, items, f.body.as_slice())?;
     let body = nodes.add(Node::Block(statements))?;
     if is_earlier(place_of(items, f.name.as_slice()), at) {
-        return Err(named_anew(f.line, name));
+        return Err(declared_twice(f.line, name));
     }
     let slots = scope.slots();
     nodes.add_function(FunctionNode {

@@ -1,6 +1,5 @@
 //! Expressions are resolved: names become slots, and types are checked.
-ghost use Rattle.std.specs.Prelude.{◌≡◌, ◌<◌, ◌&&◌, IfSome, Ok, length, map, option_map, true, false, [], Some};
-ghost use Rattle.xs_base.specs.Reading.{Fails};
+ghost use Rattle.std.specs.Prelude.{◌≡◌, ◌<◌, ◌&&◌, IfOk, IfSome, Ok, length, map, option_map, true, false, [], Some};
 ghost use Rattle.xs_csyn.specs.Tree.{exprs_of};
 ghost use Rattle.xs_csyn.specs.View.{plain, plain_place};
 ghost use Rattle.xs_ccheck.specs.Arena.{is_before, row_of, tree_from};
@@ -13,16 +12,15 @@ ghost use Rattle.std.specs.Prelude.{cond, Err};
 ghost use Rattle.xs_ccheck.specs.declared.code.ValueType.TheVariants as type_of;
 ghost use Rattle.xs_ccheck.specs.Tree.{ApiRow, CroakUsage, MoreTrees, NoTrees};
 ghost use Rattle.xs_ccheck.specs.Typing as spec;
-ghost use Rattle.xs_ccheck.specs.Typing.{Typed_tree};
 
 use crate::code::{Node, RowNode, ValueType};
 use crate::resolve_names::{
-    Found, Local, OperandSort, fault, goes_into, is, is_number, is_scalar, is_sort, row_named,
-    sorts_of, type_given, type_named, types_differ, unknown, variable_of,
+    Found, Local, OperandSort, goes_into, is, is_number, is_scalar, is_sort, row_named, sorts_of,
+    type_given, type_named, types_differ, unknown, variable_of, worded,
 };
 use crate::resolve_nodes::Nodes;
 use std::alloc::Global;
-use xs_base::{Bytes, Refuse};
+use xs_base::{Bytes, Fault, FileOf, Memory, Refuse};
 use xs_csyn::{BinaryOp, Expr, Place};
 use xs_values::{Kind, Op, common, wrap};
 
@@ -86,8 +84,7 @@ fn other_name(alloc: Global, nodes: &mut Nodes, line: u32, name: &[u8]) -> Resul
     if is(name, b"items") {
         return typed(nodes, Node::ItemCount, ValueType::Number(Kind::I32));
     }
-    let fault = unknown(alloc, 801, line, name)?;
-    Err(Refuse::Fault(fault))
+    Err(Refuse::Fault(unknown(alloc, 801, line, name)?))
 }
 
 fn use_of(
@@ -185,10 +182,9 @@ fn target(alloc: Global, line: u32, name: &[u8], found: Option<Found>) -> Result
         return Ok(TargetNode::Variable(v.slot, v.of_type));
     }
     if is(name, b"items") {
-        return Err(Refuse::Fault(fault(line, 806, Bytes::new(alloc))));
+        return Err(Refuse::Fault(Fault::bare(alloc, FileOf::Text, line, 806)));
     }
-    let fault = unknown(alloc, 801, line, name)?;
-    Err(Refuse::Fault(fault))
+    Err(Refuse::Fault(unknown(alloc, 801, line, name)?))
 }
 
 fn put(
@@ -310,13 +306,10 @@ fn called_row(
     }
 }
 
-fn wrong_count(alloc: Global, line: u32, name: &[u8]) -> Refuse
-    ensures { Fails {A = Typed_tree} result (Err (spec.fault line 805 name.now)) }
+fn wrong_count(alloc: Global, line: u32, name: &[u8]) -> Result<Fault, Memory>
+    ensures { IfOk result (λ f. f ≡ spec.fault line 805 name.now) }
 {
-    match Bytes::from_slice(alloc, name) {
-        Ok(name) => Refuse::Fault(fault(line, 805, name)),
-        Err(_) => Refuse::Memory,
-    }
+    worded(alloc, line, 805, name)
 }
 
 fn called(
@@ -333,15 +326,12 @@ fn called(
     ensures { GivesExpr result nodes.old nodes.new (spec.called line name.now count (option_map (row_of []) row) (record { trees = trees_in nodes.old xs.nodes; fit = xs.fit })) }
 {
     match row {
-        None => {
-            let fault = unknown(alloc, 802, line, name)?;
-            Err(Refuse::Fault(fault))
-        }
+        None => { Err(Refuse::Fault(unknown(alloc, 802, line, name)?)) }
         Some(row) => {
             if count == sorts_of(row).len() {
                 called_row(alloc, nodes, line, row, xs)
             } else {
-                Err(wrong_count(alloc, line, name))
+                Err(Refuse::Fault(wrong_count(alloc, line, name)?))
             }
         }
     }
@@ -413,13 +403,13 @@ fn usage(alloc: Global, nodes: &mut Nodes, line: u32, args: &[Expr]) -> Result<T
     ensures { GivesExpr result nodes.old nodes.new (spec.usage line (exprs_of (map plain args.now))) }
 {
     let Some((first, rest)) = args.split_first() else {
-        return Err(wrong_count(alloc, line, b"croak_xs_usage"));
+        return Err(Refuse::Fault(wrong_count(alloc, line, b"croak_xs_usage")?));
     };
     let Some((second, more)) = rest.split_first() else {
-        return Err(wrong_count(alloc, line, b"croak_xs_usage"));
+        return Err(Refuse::Fault(wrong_count(alloc, line, b"croak_xs_usage")?));
     };
     if more.split_first().is_some() {
-        return Err(wrong_count(alloc, line, b"croak_xs_usage"));
+        return Err(Refuse::Fault(wrong_count(alloc, line, b"croak_xs_usage")?));
     }
     usage_of(alloc, nodes, line, is_cv(first), text_in(second))
 }

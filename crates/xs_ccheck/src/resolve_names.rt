@@ -1,5 +1,5 @@
 //! Names, types and the variables that are in scope.
-ghost use Rattle.std.specs.Prelude.{◌≡◌, take, false, IfOk, IfSome, None, Some, [], map, option_map, true, ◌&&◌, nat_eq};
+ghost use Rattle.std.specs.Prelude.{◌≡◌, false, IfOk, IfSome, None, Some, [], option_map, true, ◌&&◌, nat_eq};
 ghost use Rattle.std.specs.Str.{bytes_eq};
 ghost use Rattle.xs_ccheck.specs.Arena.{row_of};
 ghost use Rattle.xs_base.specs.declared.fault.Refuse.TheVariants as refuse;
@@ -31,32 +31,42 @@ pub struct Local {
 
 // ---- faults
 
-pub(crate) fn fault(line: u32, code: u16, word: Bytes) -> Fault
-    ensures { result ≡ spec.fault line code word }
-{
-    Fault {
-        file: FileOf::Text,
-        line,
-        code,
-        word,
-    }
-}
-
 pub(crate) fn types_differ(alloc: Global, line: u32) -> Refuse
     ensures { result ≡ refuse.Fault (spec.types_differ line) }
 {
-    Refuse::Fault(fault(line, 803, Bytes::new(alloc)))
+    Refuse::Fault(Fault::bare(alloc, FileOf::Text, line, 803))
+}
+
+// The fault of a name that is declared a second time.
+pub(crate) fn declared_twice(line: u32, name: Bytes) -> Refuse
+    ensures { result ≡ refuse.Fault (spec.declared_twice line name) }
+{
+    Refuse::Fault(Fault::new(FileOf::Text, line, 804, name))
+}
+
+// The fault of a word.
+pub(crate) fn worded(alloc: Global, line: u32, code: u16, word: &[u8]) -> Result<Fault, Memory>
+    ensures { IfOk result (λ f. f ≡ spec.fault line code word.now) }
+{
+    let word = Bytes::from_slice(alloc, word)?;
+    Ok(Fault::new(FileOf::Text, line, code, word))
+}
+
+// The fault of a word that may not stand here.
+pub(crate) fn not_allowed(alloc: Global, line: u32, word: &[u8]) -> Result<Fault, Memory>
+    ensures { IfOk result (λ f. f ≡ spec.not_allowed line word.now) }
+{
+    worded(alloc, line, 807, word)
 }
 
 // The fault of a name that means nothing where it stands.
 pub(crate) fn unknown(alloc: Global, code: u16, line: u32, name: &[u8]) -> Result<Fault, Memory>
     ensures { IfOk result (λ f. f ≡ spec.unknown code line name.now) }
 {
-    let word = Bytes::from_slice(alloc, name)?;
     if is_interface_word(name) {
-        Ok(fault(line, 807, word))
+        not_allowed(alloc, line, name)
     } else {
-        Ok(fault(line, code, word))
+        worded(alloc, line, code, name)
     }
 }
 
@@ -280,7 +290,7 @@ impl Scope {
 
     // Forgets the variables that were declared behind the first so many.
     pub(crate) fn forget_behind(&mut self, count: usize)
-        ensures { self.new ≡ record { variables = take count self.old.variables; slots = self.old.slots; entered = self.old.entered; in_boot = self.old.in_boot } }
+        ensures { self.new ≡ spec.knowing count self.old }
     {
         self.locals.truncate(count);
     }

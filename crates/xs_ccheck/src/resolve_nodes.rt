@@ -18,7 +18,7 @@ pub(crate) struct Nodes {
 }
 
 // A place among so many.
-fn next_place(count: usize) -> Result<u32, Memory>
+pub(crate) fn next_place(count: usize) -> Result<u32, Memory>
     ensures { IfOk result (λ n. n ≡ count) }
 {
     match u32::try_from(count) {

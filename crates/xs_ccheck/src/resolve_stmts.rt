@@ -11,10 +11,12 @@ ghost use Rattle.xs_ccheck.specs.Typing as spec;
 
 use crate::code::{Node, RowNode, ValueType};
 use crate::resolve_exprs::expr;
-use crate::resolve_names::{Scope, fault, is, type_named, types_differ};
-use crate::resolve_nodes::Nodes;
+use crate::resolve_names::{
+    Scope, declared_twice, is, not_allowed, type_named, types_differ, worded,
+};
+use crate::resolve_nodes::{Nodes, next_place};
 use std::alloc::Global;
-use xs_base::{Bytes, Memory, Refuse};
+use xs_base::{Bytes, Refuse};
 use xs_csyn::{FileItem, PerlForm, Stmt};
 
 // ---- single nodes
@@ -94,7 +96,7 @@ fn declared(
     };
     if scope.is_taken(name.as_slice()) {
         let word = name.copy(alloc)?;
-        return Err(Refuse::Fault(fault(line, 804, word)));
+        return Err(declared_twice(line, word));
     }
     let slot = scope.declare(alloc, name.as_slice(), of_type)?;
     done(nodes, Node::Declare(slot))
@@ -142,25 +144,20 @@ fn registered_as(
     ensures { (scope : spec.Scope) → scope.in_boot ≡ in_boot → GivesStmt result nodes.old nodes.new scope (spec.registered_as line scope full.now function.now place) }
 {
     let Some(place) = place else {
-        let word = function.copy(alloc)?;
-        return Err(Refuse::Fault(fault(line, 802, word)));
+        return Err(Refuse::Fault(worded(alloc, line, 802, function.as_slice())?));
     };
     if !in_boot {
-        let word = Bytes::from_slice(alloc, b"newXS_deffile")?;
-        return Err(Refuse::Fault(fault(line, 807, word)));
+        return Err(Refuse::Fault(not_allowed(alloc, line, b"newXS_deffile")?));
     }
-    match u32::try_from(place) {
-        Ok(place) => new_xs(alloc, nodes, full, place),
-        Err(_) => Err(Refuse::Memory),
-    }
+    let place = next_place(place)?;
+    new_xs(alloc, nodes, full, place)
 }
 
 fn entry(alloc: Global, nodes: &mut Nodes, scope: &mut Scope, line: u32) -> Result<u32, Refuse>
     ensures { GivesStmt result nodes.old nodes.new scope.new (spec.entry line scope.old) }
 {
     if scope.is_entered() {
-        let word = Bytes::from_slice(alloc, b"dXSARGS")?;
-        return Err(Refuse::Fault(fault(line, 807, word)));
+        return Err(Refuse::Fault(not_allowed(alloc, line, b"dXSARGS")?));
     }
     scope.enter();
     bare_row(nodes, RowNode::Entry)

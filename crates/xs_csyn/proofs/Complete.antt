@@ -1,9 +1,12 @@
 -- What is an expression by the rules is read.
-use Rattle.std.proofs.Common.{◌≡◌, ℕ, zero, suc, ◌+◌, ◌<◌, ◌≤◌, max, Bool, true, false, if◌then◌else◌, ◌&&◌, List, [], ◌∷◌, ◌++◌, length, append_assoc, Some, None, Ok, refl, ap, ◌∙◌, add-one, arith}
-use Rattle.std.specs.Prelude.{codes}
+use Rattle.std.proofs.Common.{◌≡◌, ℕ, zero, suc, ◌+◌, ◌<◌, ◌≤◌, max, Bool, true, false, if◌then◌else◌, ◌&&◌, List, [], ◌∷◌, ◌++◌, length, append_assoc, Some, None, Ok, refl, ap, ◌∙◌, arith}
+use Rattle.std.proofs.Math.Numerals.{one-add}
+use Rattle.std.specs.Prelude.{codes, drop}
 use Rattle.std.specs.Str.{bytes_eq}
-use Rattle.std.proofs.lemmas.Bool.{and_left, and_parts, both_ways, false_from_ne_true, le-ltb, not-true}
+use Rattle.std.proofs.lemmas.Bool.{and_left, and_parts, both_ways, false_from_ne_true, le-ltb, not-true, or_parts}
 use Rattle.std.proofs.lemmas.Slice.Eq.{bytes_eq-Decides}
+use Rattle.std.proofs.Math.Nat.{max-zero, zero-max}
+use Rattle.xs_base.proofs.Greatest.{max_assoc}
 use Rattle.xs_base.specs.declared.place.FileOf.{FileOf}
 use Rattle.xs_csyn.specs.declared.node.Level.{Level}
 use Rattle.xs_csyn.specs.declared.node.Level.TheVariants as level
@@ -15,17 +18,16 @@ use Rattle.xs_csyn.specs.declared.tree.BinaryOp.TheVariants as op
 use Rattle.xs_csyn.specs.declared.tree.CType.{CType}
 use Rattle.xs_csyn.specs.Tree as t
 use Rattle.xs_csyn.specs.Tree.{ExprTree, ExprTrees, PlaceTree, exprs_of}
-use Rattle.xs_ctok.specs.Words.{no_names, type_words}
+use Rattle.xs_ctok.specs.Words.{is_no_name, no_name_words, type_words}
 use Rattle.xs_base.specs.Names.{is_among}
 use Rattle.xs_csyn.specs.Input.{Input, Outcome, is_sign, is_sign_sort, is_key, is_key_sort, is_name_by, is_type_word, sees, sees_type, sees_name, line, line_at, next, after, expect, sort_of, spelling, left, a_type_word}
 use Rattle.xs_base.specs.Readers.{and_then, head_is}
-use Rattle.xs_csyn.specs.Exprs.{Found, FoundAll, expr, at_level, whole, assignment, comparison, sum, unary, cast, climb, named, arguments, list, list_from, operator, place_of, count_stars, behind_stars, stars, a_type}
+use Rattle.xs_csyn.specs.Exprs.{Found, FoundAll, expr, at_level, whole, assignment, comparison, sum, unary, cast, climb, named, arguments, list, list_from, operator, place_of, count_stars, stars, a_type}
 use Rattle.xs_csyn.specs.Heights.{height, heights, place_height}
 use Rattle.xs_csyn.specs.Grammar as g
 use Rattle.xs_csyn.specs.Grammar.{Whole, Comparison, Sum, Unary, Arguments, APlace, AType, Stars, Is, IsKey, MayName, line_of, line_of_place}
-use Rattle.xs_csyn.proofs.Sound.{unary_line}
-use Rattle.xs_ctok.proofs.Values.{is_among-fewer}
-use Rattle.xs_csyn.proofs.SoundFiles.{place_first, sum_line}
+use Rattle.xs_csyn.proofs.Sound.{unary_line, place_first}
+use Rattle.xs_csyn.proofs.SoundFiles.{sum_line}
 
 -- ---- marks and key words
 
@@ -51,6 +53,14 @@ is_key_of word u is = let h = and_parts (is_key_sort u.sort) (bytes_eq u.text wo
 pub marks : (m n : List ℕ) (u : Token) → Is m u → is_sign n u ≡ bytes_eq m n
 marks m n u is = let k = is_mark_of m u is in ap (λ s. is_sign_sort s && bytes_eq u.text n) k.0 ∙ ap (λ x. bytes_eq x n) k.1
 
+-- a token of another sort is no mark
+pub no_mark : (m : List ℕ) (u : Token) → is_sign_sort u.sort ≡ false → is_sign m u ≡ false
+no_mark m u other = and_left (is_sign_sort u.sort) (bytes_eq u.text m) other
+
+-- a token of another sort is no key word
+no_key : (test : List ℕ → Bool) (u : Token) → is_key_sort u.sort ≡ false → (is_key_sort u.sort && test u.text) ≡ false
+no_key test u other = and_left (is_key_sort u.sort) (test u.text) other
+
 no_sign_by_name : (s : Sort) (text : List ℕ) → is_name_by s text ≡ true → is_sign_sort s ≡ false
 no_sign_by_name sort.Name text e = refl
 no_sign_by_name sort.Key text e = refl
@@ -58,7 +68,7 @@ no_sign_by_name s text e = absurd cc
 
 -- a name is no mark
 pub names_no_mark : (m : List ℕ) (u : Token) → MayName u → is_sign m u ≡ false
-names_no_mark m u e = and_left (is_sign_sort u.sort) (bytes_eq u.text m) (no_sign_by_name u.sort u.text e)
+names_no_mark m u e = no_mark m u (no_sign_by_name u.sort u.text e)
 
 -- the next token is not this mark
 abbrev pub Stop : List ℕ → List Token → Type 0
@@ -89,7 +99,7 @@ height_pos : (a : ExprTree) → 0 < height a
 height_pos (t.Var l x) = omega arith
 height_pos a = omega arith
 
-abbrev pub found_of : ExprTree → Found
+abbrev found_of : ExprTree → Found
 found_of a = record { tree = a; height = height a }
 
 abbrev list_of : ExprTrees → List ExprTree
@@ -143,18 +153,18 @@ mutual
 -- ---- what an expression begins with
 
 -- a name is no key word of those that are no names
-no_key_by_name : (test : List ℕ → Bool) → ((text : List ℕ) → is_among no_names text ≡ false → test text ≡ false) → (s : Sort) (text : List ℕ) → is_name_by s text ≡ true → (is_key_sort s && test text) ≡ false
+no_key_by_name : (test : List ℕ → Bool) → ((text : List ℕ) → is_no_name text ≡ false → test text ≡ false) → (s : Sort) (text : List ℕ) → is_name_by s text ≡ true → (is_key_sort s && test text) ≡ false
 no_key_by_name test none sort.Name text e = refl
-no_key_by_name test none sort.Key text e = none text (not-true (is_among no_names text) e)
+no_key_by_name test none sort.Key text e = none text (not-true (is_no_name text) e)
 no_key_by_name test none s text e = absurd cc
 
-other_word : (word : List ℕ) → is_among no_names word ≡ true → (text : List ℕ) → is_among no_names text ≡ false → bytes_eq text word ≡ false
+other_word : (word : List ℕ) → is_no_name word ≡ true → (text : List ℕ) → is_no_name text ≡ false → bytes_eq text word ≡ false
 other_word word among text none =
-    false_from_ne_true (bytes_eq text word) (λ same. both_ways (is_among no_names text) none (ap (is_among no_names) ((bytes_eq-Decides text word).0 same) ∙ among))
+    false_from_ne_true (bytes_eq text word) (λ same. both_ways (is_no_name text) none (ap is_no_name ((bytes_eq-Decides text word).0 same) ∙ among))
 
 -- a mark is no key word
 pub no_key_by_mark : (m : List ℕ) (u : Token) → Is m u → (test : List ℕ → Bool) → (is_key_sort u.sort && test u.text) ≡ false
-no_key_by_mark m u is test = ap (λ s. is_key_sort s && test u.text) (is_mark_of m u is).0
+no_key_by_mark m u is test = no_key test u (ap is_key_sort (is_mark_of m u is).0)
 
 -- what the first token is not
 pub record Starts (ts : List Token) : Type 0 where
@@ -170,10 +180,10 @@ starts_by_name n ts e = record {
   no_block = names_no_mark (codes "{") n e;
   no_end = names_no_mark (codes "}") n e;
   no_if = no_key_by_name (λ text. bytes_eq text (codes "if")) (other_word (codes "if") refl) n.sort n.text e;
-  no_type = no_key_by_name (is_among type_words) (λ text. is_among-fewer no_names type_words text refl) n.sort n.text e;
+  no_type = no_key_by_name (is_among type_words) (λ text none. (or_parts (is_among type_words text) (is_among no_name_words text) none).0) n.sort n.text e;
 }
 
-pub starts_by_mark : (m : List ℕ) (u : Token) (ts : List Token) → Is m u → bytes_eq m (codes ")") ≡ false → bytes_eq m (codes "{") ≡ false → bytes_eq m (codes "}") ≡ false → Starts (u ∷ ts)
+starts_by_mark : (m : List ℕ) (u : Token) (ts : List Token) → Is m u → bytes_eq m (codes ")") ≡ false → bytes_eq m (codes "{") ≡ false → bytes_eq m (codes "}") ≡ false → Starts (u ∷ ts)
 starts_by_mark m u ts is a b c = record {
   no_close = marks m (codes ")") u is ∙ a;
   no_block = marks m (codes "{") u is ∙ b;
@@ -182,25 +192,19 @@ starts_by_mark m u ts is a b c = record {
   no_type = no_key_by_mark m u is (is_among type_words);
 }
 
-starts_by_sort : (s : Sort) (u : Token) (ts : List Token) → u.sort ≡ s → is_sign_sort s ≡ false → is_key_sort s ≡ false → Starts (u ∷ ts)
-starts_by_sort s u ts e no_sign no_key = record {
-  no_close = no_mark (codes ")");
-  no_block = no_mark (codes "{");
-  no_end = no_mark (codes "}");
-  no_if = no_word (λ text. bytes_eq text (codes "if"));
-  no_type = no_word (is_among type_words);
+starts_by_sort : (u : Token) (ts : List Token) → is_sign_sort u.sort ≡ false → is_key_sort u.sort ≡ false → Starts (u ∷ ts)
+starts_by_sort u ts sign key = record {
+  no_close = no_mark (codes ")") u sign;
+  no_block = no_mark (codes "{") u sign;
+  no_end = no_mark (codes "}") u sign;
+  no_if = no_key (λ text. bytes_eq text (codes "if")) u key;
+  no_type = no_key (is_among type_words) u key;
 }
-  where
-    no_mark : (m : List ℕ) → is_sign m u ≡ false
-    no_mark m = and_left (is_sign_sort u.sort) (bytes_eq u.text m) (ap is_sign_sort e ∙ no_sign)
-
-    no_word : (test : List ℕ → Bool) → (is_key_sort u.sort && test u.text) ≡ false
-    no_word test = and_left (is_key_sort u.sort) (test u.text) (ap is_key_sort e ∙ no_key)
 
 unary_starts : {a : ExprTree} {ts us : List Token} → Unary a ts us → Starts ts
 unary_starts (g.cast {t = u} {ts = ts} op ty cl x) = starts_by_mark (codes "(") u ts op refl refl refl
-unary_starts (g.int {value = value} {t = u} {ts = ts} k) = starts_by_sort (sort.Numeral value) u ts k refl refl
-unary_starts (g.text {t = u} {ts = ts} k) = starts_by_sort sort.Quoted u ts k refl refl
+unary_starts (g.int {value = value} {t = u} {ts = ts} k) = starts_by_sort u ts (ap is_sign_sort k) (ap is_key_sort k)
+unary_starts (g.text {t = u} {ts = ts} k) = starts_by_sort u ts (ap is_sign_sort k) (ap is_key_sort k)
 unary_starts (g.name {t = n} {ts = ts} e) = starts_by_name n ts e
 unary_starts (g.call {t = n} {u = u} {ts = ts} e op x) = starts_by_name n (u ∷ ts) e
 
@@ -228,17 +232,14 @@ some_starts (g.more x cm y) = whole_starts x
 
 record StarsRead (n : ℕ) (ts us : List Token) : Type 0 where
   count : count_stars ts ≡ n
-  rest : behind_stars ts ≡ us
+  rest : drop n ts ≡ us
 
 stars_read : {n : ℕ} {ts us : List Token} → Stars n ts us → Stop (codes "*") us → StarsRead n ts us
 stars_read (g.no_star {ts = []}) stop = record { count = refl; rest = refl }
-stars_read (g.no_star {ts = u ∷ us}) stop = record { count = ap (λ b. if b then count_stars us + 1 else 0) stop; rest = ap (λ b. if b then behind_stars us else u ∷ us) stop }
-stars_read (g.star {n = n} {t = u} {ts = ts} {us = us} is s) stop =
+stars_read (g.no_star {ts = u ∷ us}) stop = record { count = ap (λ b. if b then 1 + count_stars us else 0) stop; rest = refl }
+stars_read (g.star {t = u} {ts = ts} is s) stop =
     let more = stars_read s stop in
-    record {
-      count = ap (λ b. if b then count_stars ts + 1 else 0) is ∙ add-one (count_stars ts) ∙ ap suc more.count;
-      rest = ap (λ b. if b then behind_stars ts else u ∷ ts) is ∙ more.rest;
-    }
+    record { count = ap (λ b. if b then 1 + count_stars ts else 0) is ∙ one-add (count_stars ts) ∙ ap suc more.count; rest = more.rest }
 
 module _ (file : FileOf) (last : ℕ) where
   abbrev pub at : List Token → Input
@@ -296,15 +297,6 @@ module _ (file : FileOf) (last : ℕ) where
   sum_finish : (a : ExprTree) (ts us : List Token) (m : ℕ) → Stop (codes "+") us → Reaches (sum (expr m) m (at ts)) m level.Unary (line_of a) a us → sum (expr m) m (at ts) ≡ Ok (found_of a, at us)
   sum_finish a ts us m plus r = finish (sum (expr m) m (at ts)) m level.Unary (line_of a) a us (no_plus us plus) r
 
-  max_none : (h : ℕ) → max h 0 ≡ h
-  max_none h = omega arith
-
-  none_max : (h : ℕ) → max 0 h ≡ h
-  none_max h = omega arith
-
-  max_assoc : (a b c : ℕ) → max (max a b) c ≡ max a (max b c)
-  max_assoc a b c = omega arith
-
   -- a name is read as one
   named_by : (m : ℕ) (s : Sort) (x : List ℕ) (l : ℕ) (ts : List Token) → is_name_by s x ≡ true → unary (expr m) (at (record { sort = s; text = x; line = l } ∷ ts)) ≡ named (expr m) l (at (record { sort = s; text = x; line = l } ∷ ts))
   unfolding unary after sees sort_of sees_name line
@@ -336,7 +328,7 @@ module _ (file : FileOf) (last : ℕ) where
       → arguments (expr m) (at ts) ≡ Ok (record { trees = a ∷ []; height = height a }, at us)
   unfolding arguments list list_from left after sees next expect
   one_done m a v [] us no_close cl some r = absurd (omega arith)
-  one_done m a v (w ∷ ts) us no_close cl some r = rw (no_close, r, marks (codes ")") (codes ",") v cl, cl, none_max (height a)) refl
+  one_done m a v (w ∷ ts) us no_close cl some r = rw (no_close, r, marks (codes ")") (codes ",") v cl, cl, zero-max (height a)) refl
 
   mutual
     unfolding unary after sees next line sort_of spelling sees_name named sum arguments list list_from left expect cast
@@ -376,9 +368,9 @@ module _ (file : FileOf) (last : ℕ) where
     place_done (g.variable {t = n} {ts = ts} e) m h stop = (t.Var n.line n.text, named_by m n.sort n.text n.line ts e ∙ rw stop refl, refl, refl)
     place_done (g.st {a = a} {t = n} {u = u} {v = v} {ts = ts} {us = us} e st op x cl) m h stop = (
       t.Call n.line n.text (t.MoreExprs a t.NoExprs),
-      named_by m n.sort n.text n.line (u ∷ ts) e ∙ rw (op, one_done m a v ts us ((whole_starts x).no_close) cl (omega (arith, whole_shrinks x)) (inner_done level.Whole m a ts (v ∷ us) (omega arith) (λ k h'. whole_done x k h' (closes v us cl))), max_none (height a)) refl,
+      named_by m n.sort n.text n.line (u ∷ ts) e ∙ rw (op, one_done m a v ts us ((whole_starts x).no_close) cl (omega (arith, whole_shrinks x)) (inner_done level.Whole m a ts (v ∷ us) (omega arith) (λ k h'. whole_done x k h' (closes v us cl))), max-zero (height a)) refl,
       ap (λ b. if b then Some (t.StPlace n.line a) else None) st,
-      ap (λ k. k + 1) (max_none (height a)),
+      ap (λ k. k + 1) (max-zero (height a)),
     )
 
     pub whole_done : {a : ExprTree} {ts us : List Token} → Whole a ts us → (m : ℕ) → height a ≤ m + 1 → StopsWhole us → whole (expr m) m (at ts) ≡ Ok (found_of a, at us)
@@ -391,13 +383,13 @@ module _ (file : FileOf) (last : ℕ) where
 
     arguments_done : {all : ExprTrees} {ts us : List Token} → Arguments all ts us → (m : ℕ) → heights all ≤ m → arguments (expr m) (at ts) ≡ Ok (record { trees = list_of all; height = heights all }, at us)
     arguments_done (g.none cl) m h = rw cl refl
-    arguments_done (g.some {all = all} {ts = ts} {us = us} x) m h = rw ((some_starts x).no_close) (more_done x m h (length ts) (omega arith) (record { trees = []; height = 0 }) ∙ rw (none_max (heights all)) refl)
+    arguments_done (g.some {all = all} {ts = ts} {us = us} x) m h = rw ((some_starts x).no_close) (more_done x m h (length ts) (omega arith) (record { trees = []; height = 0 }) ∙ rw (zero-max (heights all)) refl)
 
     more_done : {all : ExprTrees} {ts us : List Token} → g.Some all ts us → (m : ℕ) → heights all ≤ m → (n : ℕ) → length ts ≤ n → (acc : FoundAll)
         → list_from (expr m) n acc (at ts) ≡ Ok (record { trees = acc.trees ++ list_of all; height = max acc.height (heights all) }, at us)
     more_done (g.last x cl) m h zero len acc = absurd (omega (arith, whole_shrinks x))
     more_done (g.last {a = a} {u = u} {ts = ts} {us = us} x cl) m h (suc n) len acc =
-        rw (inner_done level.Whole m a ts (u ∷ us) (omega arith) (λ k h'. whole_done x k h' (closes u us cl)), marks (codes ")") (codes ",") u cl, cl, max_none (height a)) refl
+        rw (inner_done level.Whole m a ts (u ∷ us) (omega arith) (λ k h'. whole_done x k h' (closes u us cl)), marks (codes ")") (codes ",") u cl, cl, max-zero (height a)) refl
     more_done (g.more x cm y) m h zero len acc = absurd (omega (arith, whole_shrinks x))
     more_done (g.more {a = a} {all = all} {u = u} {ts = ts} {us = us} {vs = vs} x cm y) m h (suc n) len acc =
         rw (inner_done level.Whole m a ts (u ∷ us) (omega arith) (λ k h'. whole_done x k h' (parts_at u us cm)), cm)

@@ -1,5 +1,5 @@
 -- What is a file by the rules is read.
-use Rattle.std.proofs.Common.{◌≡◌, ℕ, zero, suc, ◌<◌, ◌≤◌, true, false, ◌&&◌, ◌==◌, List, [], ◌∷◌, ◌++◌, length, append_assoc, append-nil, Result, Ok, refl, ap, ◌∙◌, arith}
+use Rattle.std.proofs.Common.{◌≡◌, ℕ, zero, suc, ◌-◌, ◌<◌, ◌≤◌, true, false, ◌&&◌, ◌==◌, List, [], ◌∷◌, ◌++◌, length, append_assoc, append-nil, Result, Ok, refl, ap, ◌∙◌, arith}
 use Rattle.std.specs.Prelude.{codes}
 use Rattle.std.specs.Str.{bytes_eq}
 use Rattle.std.proofs.lemmas.Bool.{and_parts}
@@ -25,13 +25,13 @@ use Rattle.xs_csyn.specs.View.{file_tree}
 use Rattle.xs_csyn.specs.Grammar as g
 use Rattle.xs_csyn.specs.Grammar.{Whole, AType, Declaration, Statement, Parts, File, IsTextOf, Is, IsKey, MayName, line_of}
 use Rattle.xs_csyn.proofs.SoundFiles.{whole_line}
-use Rattle.xs_csyn.proofs.Complete.{key_only, is_key_of, marks, names_no_mark, no_key_by_mark, Stop, Starts, whole_starts, StopsWhole, closes, ends, at, type_done, whole_done, whole_shrinks, type_shrinks}
+use Rattle.xs_csyn.proofs.Complete.{key_only, is_key_of, marks, no_mark, names_no_mark, no_key_by_mark, Stop, Starts, whole_starts, StopsWhole, closes, ends, at, type_done, whole_done, whole_shrinks, type_shrinks}
 
 -- ---- words
 
 -- what is known of a key word at the front
 key_no_mark : (word m : List ℕ) (n : Token) → IsKey word n → is_sign m n ≡ false
-key_no_mark word m n e = ap (λ s. is_sign_sort s && bytes_eq n.text m) (is_key_of word n e).0
+key_no_mark word m n e = no_mark m n (ap is_sign_sort (is_key_of word n e).0)
 
 key_is : (word other : List ℕ) (n : Token) → IsKey word n → is_key other n ≡ bytes_eq word other
 key_is word other n e = let k = is_key_of word n e in ap (λ s. is_key_sort s && bytes_eq n.text other) k.0 ∙ ap (λ x. bytes_eq x other) k.1
@@ -39,16 +39,10 @@ key_is word other n e = let k = is_key_of word n e in ap (λ s. is_key_sort s &&
 key_type : (word : List ℕ) (n : Token) → IsKey word n → is_type_word n ≡ is_among type_words word
 key_type word n e = let k = is_key_of word n e in ap (λ s. is_key_sort s && is_among type_words n.text) k.0 ∙ ap (is_among type_words) k.1
 
-starts_by_key : (word : List ℕ) (n : Token) (ts : List Token) → IsKey word n → bytes_eq word (codes "if") ≡ false → is_among type_words word ≡ false → Starts (n ∷ ts)
-starts_by_key word n ts e a b = record {
-  no_close = key_no_mark word (codes ")") n e;
-  no_block = key_no_mark word (codes "{") n e;
-  no_end = key_no_mark word (codes "}") n e;
-  no_if = key_is word (codes "if") n e ∙ a;
-  no_type = key_type word n e ∙ b;
-}
-
 -- ---- sizes
+
+declaration_shrinks : {s : StmtTree} {ts us : List Token} → Declaration s ts us → length us < length ts
+declaration_shrinks (g.declare ty n e) = omega (arith, type_shrinks ty)
 
 mutual
   stmt_shrinks : {s : StmtTree} {ts us : List Token} → Statement s ts us → length us < length ts
@@ -61,11 +55,8 @@ mutual
 
   parts_shrink : {all : StmtTrees} {ts us : List Token} → Parts all ts us → length us < length ts
   parts_shrink (g.over e) = omega arith
-  parts_shrink (g.declared (g.declare ty n e) y) = omega (arith, type_shrinks ty, parts_shrink y)
+  parts_shrink (g.declared x y) = omega (arith, declaration_shrinks x, parts_shrink y)
   parts_shrink (g.stated x y) = omega (arith, stmt_shrinks x, parts_shrink y)
-
-declaration_shrinks : {s : StmtTree} {ts us : List Token} → Declaration s ts us → length us < length ts
-declaration_shrinks (g.declare ty n e) = omega (arith, type_shrinks ty)
 
 abbrev list_of : StmtTrees → List StmtTree
 list_of t.NoStmts = []
@@ -82,7 +73,7 @@ type_starts (g.type_word e s) = e
 
 type_no_end : {to : CType} {ts us : List Token} → AType to ts us → Stop (codes "}") ts
 type_no_end (g.type_word {t = u} e s) =
-    ap (λ k. is_sign_sort k && bytes_eq u.text (codes "}")) (key_only u.sort (and_parts (is_key_sort u.sort) (is_among type_words u.text) e).0)
+    no_mark (codes "}") u (ap is_sign_sort (key_only u.sort (and_parts (is_key_sort u.sort) (is_among type_words u.text) e).0))
 
 declaration_no_end : {s : StmtTree} {ts us : List Token} → Declaration s ts us → Stop (codes "}") ts
 declaration_no_end (g.declare ty n e) = type_no_end ty
@@ -97,12 +88,15 @@ record StartsStatement (ts : List Token) : Type 0 where
 of_starts : (ts : List Token) → Starts ts → StartsStatement ts
 of_starts ts s = record { no_end = s.no_end; no_type = s.no_type }
 
+key_starts : (word : List ℕ) (n : Token) (ts : List Token) → IsKey word n → is_among type_words word ≡ false → StartsStatement (n ∷ ts)
+key_starts word n ts k other = record { no_end = key_no_mark word (codes "}") n k; no_type = key_type word n k ∙ other }
+
 stmt_starts : {s : StmtTree} {ts us : List Token} → Statement s ts us → StartsStatement ts
 stmt_starts (g.block {t = u} op x) = record { no_end = marks (codes "{") (codes "}") u op; no_type = no_key_by_mark (codes "{") u op (is_among type_words) }
-stmt_starts (g.condition {t = n} k op x cl y) = record { no_end = key_no_mark (codes "if") (codes "}") n k; no_type = key_type (codes "if") n k }
-stmt_starts (g.args {t = n} {u = u} {ts = ts} k e) = of_starts (n ∷ u ∷ ts) (starts_by_key (codes "dXSARGS") n (u ∷ ts) k refl refl)
-stmt_starts (g.return_yes {t = n} {u = u} {ts = ts} k e) = of_starts (n ∷ u ∷ ts) (starts_by_key (codes "XSRETURN_YES") n (u ∷ ts) k refl refl)
-stmt_starts (g.new_xs {a = n} k b c d e f h) = record { no_end = key_no_mark (codes "newXS_deffile") (codes "}") n k; no_type = key_type (codes "newXS_deffile") n k }
+stmt_starts (g.condition {t = n} k op x cl y) = key_starts (codes "if") n _ k refl
+stmt_starts (g.args {t = n} {u = u} {ts = ts} k e) = key_starts (codes "dXSARGS") n (u ∷ ts) k refl
+stmt_starts (g.return_yes {t = n} {u = u} {ts = ts} k e) = key_starts (codes "XSRETURN_YES") n (u ∷ ts) k refl
+stmt_starts (g.new_xs {a = n} k b c d e f h) = key_starts (codes "newXS_deffile") n _ k refl
 stmt_starts (g.effect {ts = ts} w n x e) = of_starts ts (whole_starts x)
 
 module _ (file : FileOf) (last : ℕ) where
@@ -112,7 +106,7 @@ module _ (file : FileOf) (last : ℕ) where
   -- a whole expression, of at most so many levels
   expr_done : (a : ExprTree) (ts us : List Token) → Whole a ts us → height a ≤ max_nesting → StopsWhole us → an_expr (here ts) ≡ Ok (a, here us)
   unfolding an_expr expr
-  expr_done a ts us x h stop = rw (whole_done file last x 63 (omega arith) stop) refl
+  expr_done a ts us x h stop = rw (whole_done file last x (max_nesting - 1) (omega arith) stop) refl
 
   -- a statement in which no other stands, at any level
   at_any : (room : ℕ) (ts : List Token) (o : Outcome StmtTree) → Stop (codes "{") ts → head_is (is_key (codes "if")) ts ≡ false → simple (here ts) ≡ o → stmt room (here ts) ≡ o
@@ -199,7 +193,7 @@ module _ (file : FileOf) (last : ℕ) where
         let b = stmt_starts x in
         part_done room s all ts us vs b.no_end (part_stated room s ts us b.no_type (stmt_done x room (omega arith) (omega arith))) (stmt_shrinks x) (parts_done y room (omega arith) (omega arith))
 
-  function_done : (body : StmtTrees) (t1 t2 t3 t4 t5 : Token) (ts us : List Token) → IsKey (codes "XS") t1 → Is (codes "(") t2 → MayName t3 → Is (codes ")") t4 → Is (codes "{") t5 → head_is (is_key (codes "dXSARGS")) ts ≡ true → Read 63 body ts us
+  function_done : (body : StmtTrees) (t1 t2 t3 t4 t5 : Token) (ts us : List Token) → IsKey (codes "XS") t1 → Is (codes "(") t2 → MayName t3 → Is (codes ")") t4 → Is (codes "{") t5 → head_is (is_key (codes "dXSARGS")) ts ≡ true → Read (max_nesting - 1) body ts us
       → function (here (t1 ∷ t2 ∷ t3 ∷ t4 ∷ t5 ∷ ts)) ≡ Ok (record { line = t1.line; name = t3.text; body = body }, here us)
   unfolding function line expect_key sees_key next expect sees a_name sees_name spelling body_begins parts left
   function_done body t1 t2 t3 t4 t5 ts us k o n c b d r = rw (k, o, n, c, b, d, r (length ts) (omega arith) [], stmts_of-list_of body) refl
@@ -221,7 +215,7 @@ module _ (file : FileOf) (last : ℕ) where
   items_done (g.function k o nm c b d x rest) w zero len done = absurd (omega arith)
   items_done (g.function {body = body} {all = all} {t = t1} {u = t2} {v = t3} {w = t4} {x = t5} {ts = ts} {us = us} k o nm c b d x rest) w (suc n) len done =
       let f : FunctionTree = record { line = t1.line; name = t3.text; body = body } in
-      items_more n done f t1 (t2 ∷ t3 ∷ t4 ∷ t5 ∷ ts) us (function_done body t1 t2 t3 t4 t5 ts us k o nm c b d (parts_done x 63 (omega (arith, w.0)) w.1))
+      items_more n done f t1 (t2 ∷ t3 ∷ t4 ∷ t5 ∷ ts) us (function_done body t1 t2 t3 t4 t5 ts us k o nm c b d (parts_done x (max_nesting - 1) (omega (arith, w.0)) w.1))
       ∙ items_done rest w.2 n (omega (arith, parts_shrink x)) (done ++ XsFunction f ∷ [])
       ∙ rw (append_assoc done (XsFunction f ∷ []) all) refl
 

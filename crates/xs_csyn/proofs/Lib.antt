@@ -1,6 +1,4 @@
-pub mod Turns
 pub mod Places
-pub mod Stars
 pub mod Views
 pub mod Sound
 pub mod SoundFiles

@@ -1,6 +1,9 @@
 -- What is read is in the grammar.
-use Rattle.std.proofs.Common.{◌≡◌, ℕ, zero, suc, ◌+◌, Bool, true, false, if◌then◌else◌, nat_lt, List, [], ◌∷◌, ◌++◌, append_assoc, Option, Some, None, Ok, Err, refl, ap, subst, sym, ◌∙◌, add-one}
-use Rattle.std.specs.Prelude.{codes}
+use Rattle.std.proofs.Common.{◌≡◌, ℕ, zero, suc, ◌+◌, Bool, true, false, if◌then◌else◌, nat_lt, List, [], ◌∷◌, ◌++◌, append_assoc, Option, Some, None, Ok, refl, ap, subst, sym, ◌∙◌}
+use Rattle.std.proofs.Math.Numerals.{one-add}
+use Rattle.std.specs.Bool.{then_some}
+use Rattle.std.specs.Option.{option_map_or}
+use Rattle.std.specs.Prelude.{codes, drop}
 use Rattle.std.specs.Str.{bytes_eq}
 use Rattle.xs_csyn.specs.declared.node.Level.{Level}
 use Rattle.xs_csyn.specs.declared.node.Level.TheVariants as level
@@ -12,9 +15,11 @@ use Rattle.xs_csyn.specs.declared.tree.BinaryOp.TheVariants as op
 use Rattle.xs_csyn.specs.declared.tree.CType.{CType}
 use Rattle.xs_csyn.specs.Tree as t
 use Rattle.xs_csyn.specs.Tree.{ExprTree, ExprTrees, PlaceTree, exprs_of}
-use Rattle.xs_csyn.specs.Input.{Input, Outcome, Reader, is_sign, is_name, is_type_word, sees, sees_type, sees_name, line, line_at, next, after, expect, refuse, sort_at, sort_of, text_at, spelling, left, take_token, taken, peek, eat, too_deep, a_type_word}
+use Rattle.xs_csyn.specs.Input.{Input, Reader, is_sign, is_name, is_type_word, sees, sees_type, sees_name, line, line_at, next, after, expect, refuse, sort_at, sort_of, text_at, spelling, left, take_token, taken, peek, eat, too_deep, a_type_word}
+use Rattle.xs_base.proofs.ReaderSteps.{same_outcome, bind_ok, map_ok}
+use Rattle.xs_base.specs.declared.fault.Fault.{Fault}
 use Rattle.xs_base.specs.Readers.{and_then, head_is, tail, pure, ◌<$>◌, ◌>>◌, ◌>>=◌}
-use Rattle.xs_csyn.specs.Exprs.{Found, FoundAll, expr, whole, assignment, comparison, sum, unary, cast, climb, named, arguments, list, list_from, term, above, leaf, called, joined, assigned, with_more, no_nodes, operator, on, place_of, list_place, count_stars, behind_stars, stars, a_type}
+use Rattle.xs_csyn.specs.Exprs.{Found, FoundAll, expr, whole, assignment, comparison, sum, unary, cast, climb, named, arguments, list, list_from, term, above, leaf, called, joined, assigned, with_node, no_nodes, operator, place_of, list_place, count_stars, behind_stars, stars, a_type}
 use Rattle.xs_csyn.specs.Grammar as g
 use Rattle.xs_csyn.specs.Grammar.{Whole, Comparison, Sum, Unary, Arguments, APlace, AType, Stars, line_of, line_of_place}
 
@@ -24,27 +29,14 @@ Stands level.Whole a i k = Whole a i.rest k.rest
 Stands level.Sum a i k = Sum a i.rest k.rest
 Stands level.Unary a i k = Unary a i.rest k.rest
 
-pub same_ok : {A : Type 0} (a b : A) (i k : Input) → ◌≡◌ {A = Outcome A} (Ok (a, i)) (Ok (b, k)) → (a ≡ b) × (i ≡ k)
-same_ok {A} a b i k h = let e : ◌≡◌ {A = A × Input} (a, i) (b, k) = cc in (ap (λ (p : A × Input). p.0) e, ap (λ (p : A × Input). p.1) e)
-
-pub bind_ok : {A B : Type 0} (r : Outcome A) (f : A → Reader B) (b : B) (k : Input) → and_then r f ≡ Ok (b, k) → (a : A) × (j : Input) × (r ≡ Ok (a, j)) × (f a j ≡ Ok (b, k))
-bind_ok (Ok p) f b k h = (p.0, p.1, refl, h)
-bind_ok (Err e) f b k h = absurd cc
-
-pub map_ok : {A B : Type 0} (f : A → B) (r : Outcome A) (b : B) (k : Input) → and_then r (λ x. pure (f x)) ≡ Ok (b, k) → (a : A) × (r ≡ Ok (a, k)) × (b ≡ f a)
-map_ok {A} {B} f (Ok p) b k h =
-    let s = same_ok (f p.0) b p.1 k h in
-    (p.0, ap (λ (j : Input). let r : Outcome A = Ok (p.0, j) in r) s.1, sym s.0)
-map_ok f (Err e) b k h = absurd cc
-
 -- What is taken is wanted.
 pub taken_ok : (b : Bool) (i k : Input) (text : List ℕ) → taken b i ≡ Ok (text, k) → (b ≡ true) × (text ≡ spelling i) × (k ≡ next i)
-taken_ok true i k text h = let s = same_ok (spelling i) text (next i) k h in (refl, sym s.0, sym s.1)
+taken_ok true i k text h = let s = same_outcome {E = Fault} (spelling i) text (next i) k h in (refl, sym s.0, sym s.1)
 taken_ok false i k text h = absurd cc
 
 -- the same where its text is not looked at
 pub passed_ok : (b : Bool) (i k : Input) (u : Unit {0}) → and_then (taken b i) (λ _. pure tt) ≡ Ok (u, k) → (b ≡ true) × (k ≡ next i)
-passed_ok true i k u h = (refl, sym (same_ok tt u (next i) k h).1)
+passed_ok true i k u h = (refl, sym (same_outcome {E = Fault} tt u (next i) k h).1)
 passed_ok false i k u h = absurd cc
 
 pub expect_ok : (mark : List ℕ) (i k : Input) (u : Unit {0}) → expect mark i ≡ Ok (u, k) → (head_is (is_sign mark) i.rest ≡ true) × (k ≡ next i)
@@ -61,8 +53,8 @@ stars_stand : (ts : List Token) → Stars (count_stars ts) ts (behind_stars ts)
 stars_stand [] = g.no_star
 stars_stand (t ∷ ts) = by (is_sign (codes "*") t) refl (stars_stand ts)
   where
-    by : (b : Bool) → is_sign (codes "*") t ≡ b → Stars (count_stars ts) ts (behind_stars ts) → Stars (if b then count_stars ts + 1 else 0) (t ∷ ts) (if b then behind_stars ts else t ∷ ts)
-    by true e rest = rw add-one (g.star e rest)
+    by : (b : Bool) → is_sign (codes "*") t ≡ b → Stars (count_stars ts) ts (behind_stars ts) → Stars (if b then 1 + count_stars ts else 0) (t ∷ ts) (drop (if b then 1 + count_stars ts else 0) (t ∷ ts))
+    by true e rest = rw (one-add (count_stars ts)) (g.star e rest)
     by false e rest = g.no_star
 
 type_stands : (ts us : List Token) (to : CType) → head_is is_type_word ts ≡ true → to ≡ record { name = text_at ts; stars = count_stars (tail ts) } → us ≡ behind_stars (tail ts) → AType to ts us
@@ -77,7 +69,7 @@ a_type_sound i k to h = by (sees_type i) refl h
     by true e h =
         let made : CType = record { name = spelling i; stars = count_stars (tail i.rest) } in
         let there : Input = record i { rest = behind_stars (tail i.rest) } in
-        let s = same_ok made to there k h in
+        let s = same_outcome {E = Fault} made to there k h in
         type_stands i.rest k.rest to e (sym s.0) (ap (λ (j : Input). j.rest) (sym s.1))
     by false e h = absurd cc
 
@@ -136,6 +128,11 @@ pub unary_line : (a : ExprTree) (ts us : List Token) (last : ℕ) → Unary a ts
 unary_line a ts us last (g.cast op ty cl x) = refl
 unary_line a ts us last x = refl
 
+-- So has a place.
+pub place_first : (p : PlaceTree) (ts us : List Token) (last : ℕ) → APlace p ts us → line_at last ts ≡ line_of_place p
+place_first p ts us last (g.variable n) = refl
+place_first p ts us last (g.st n e op x cl) = refl
+
 -- ---- places
 
 some_more : (all : ExprTrees) (ts us : List Token) → g.Some all ts us → all ≡ t.NoExprs → ⊥
@@ -162,20 +159,6 @@ place_sound a p ts us e (g.call {args = args} {t = n} {u = u} {ts = ts'} name op
     by true st e = list_place_sound args p n u ts' us e name st op x
     by false st e = absurd cc
 
-list_place_line : (line : ℕ) (args : ExprTrees) (p : PlaceTree) → list_place line args ≡ Some p → line_of_place p ≡ line
-list_place_line line t.NoExprs p e = absurd cc
-list_place_line line (t.MoreExprs a t.NoExprs) p e = let same : t.StPlace line a ≡ p = cc in ap line_of_place (sym same)
-list_place_line line (t.MoreExprs a (t.MoreExprs b all)) p e = absurd cc
-
-place_line : (a : ExprTree) (p : PlaceTree) → place_of a ≡ Some p → line_of_place p ≡ line_of a
-place_line (t.Var line name) p e = let same : t.VarPlace line name ≡ p = cc in ap line_of_place (sym same)
-place_line (t.Call line name args) p e = by (bytes_eq name (codes "ST")) e
-  where
-    by : (b : Bool) → (if b then list_place line args else None) ≡ Some p → line_of_place p ≡ line
-    by true e = list_place_line line args p e
-    by false e = absurd cc
-place_line a p e = absurd cc
-
 -- ---- operators
 
 -- what operands of a level and operators between them make
@@ -193,12 +176,12 @@ unfolding operator sees next
 grown level.Whole which line a b s i k e x y = absurd cc
 grown level.Sum which line a b s i k e x y = by (sees (codes "!=") i) refl e
   where
-    by : (q : Bool) → sees (codes "!=") i ≡ q → (if q then Some op.NotEqual else None) ≡ Some which → Climbs level.Sum line (t.Two line which a b) s k
+    by : (q : Bool) → sees (codes "!=") i ≡ q → then_some q op.NotEqual ≡ Some which → Climbs level.Sum line (t.Two line which a b) s k
     by true is e = let same : op.NotEqual ≡ which = cc in rw (← same, x.line_is) (record { stands = not_equal_stands a b s.rest i.rest k.rest x.stands is y; line_is = refl })
     by false is e = absurd cc
 grown level.Unary which line a b s i k e x y = by (sees (codes "+") i) refl e
   where
-    by : (q : Bool) → sees (codes "+") i ≡ q → (if q then Some op.Add else None) ≡ Some which → Climbs level.Unary line (t.Two line which a b) s k
+    by : (q : Bool) → sees (codes "+") i ≡ q → then_some q op.Add ≡ Some which → Climbs level.Unary line (t.Two line which a b) s k
     by true is e = let same : op.Add ≡ which = cc in rw (← same, x.line_is) (record { stands = add_stands a b s.rest i.rest k.rest x.stands is y; line_is = refl })
     by false is e = absurd cc
 
@@ -219,18 +202,18 @@ module _ (inner : Level → Reader Found) (H : (l : Level) (i k : Input) (f : Fo
   unfolding list_from after sees next
   list_sound zero all found i k h = absurd cc
   list_sound (suc n) all found i k h =
-      let p = bind_ok (inner level.Whole i) (λ one. eat (codes ",") >>= λ more. if more then list_from inner n (with_more all one) else (expect (codes ")") >> pure (with_more all one))) found k h in
-      by_comma p.0 p.1 p.2 (list_sound n (with_more all p.0) found (next p.1) k) (sees (codes ",") p.1) refl p.3
+      let p = bind_ok (inner level.Whole i) (λ one. eat (codes ",") >>= λ more. if more then list_from inner n (with_node all one) else (expect (codes ")") >> pure (with_node all one))) (found, k) h in
+      by_comma p.0 p.1 p.2 (list_sound n (with_node all p.0) found (next p.1) k) (sees (codes ",") p.1) refl p.3
     where
-      by_comma : (one : Found) (j : Input) → inner level.Whole i ≡ Ok (one, j) → (list_from inner n (with_more all one) (next j) ≡ Ok (found, k) → GoesOn (with_more all one).trees found.trees (MoreArguments (next j) k))
-          → (b : Bool) → sees (codes ",") j ≡ b → (if b then list_from inner n (with_more all one) else (expect (codes ")") >> pure (with_more all one))) (if b then next j else j) ≡ Ok (found, k) → GoesOn all.trees found.trees (MoreArguments i k)
+      by_comma : (one : Found) (j : Input) → inner level.Whole i ≡ Ok (one, j) → (list_from inner n (with_node all one) (next j) ≡ Ok (found, k) → GoesOn (with_node all one).trees found.trees (MoreArguments (next j) k))
+          → (b : Bool) → sees (codes ",") j ≡ b → (if b then list_from inner n (with_node all one) else (expect (codes ")") >> pure (with_node all one))) (if b then next j else j) ≡ Ok (found, k) → GoesOn all.trees found.trees (MoreArguments i k)
       by_comma one j r again true e h =
           let rest = again h in
           (one.tree ∷ rest.0, rest.1 ∙ append_assoc all.trees (one.tree ∷ []) rest.0, more_stands one.tree (exprs_of rest.0) i.rest j.rest k.rest (H level.Whole i j one r) e rest.2)
       by_comma one j r again false e h =
-          let q = bind_ok (expect (codes ")") j) (λ _. pure (with_more all one)) found k h in
+          let q = bind_ok (expect (codes ")") j) (λ _. pure (with_node all one)) (found, k) h in
           let x = expect_ok (codes ")") j q.1 q.0 q.2 in
-          let s = same_ok (with_more all one) found q.1 k q.3 in
+          let s = same_outcome {E = Fault} (with_node all one) found q.1 k q.3 in
           let there : k.rest ≡ tail j.rest = ap (λ (o : Input). o.rest) (sym s.1 ∙ x.1) in
           (one.tree ∷ [], ap (λ (o : FoundAll). o.trees) (sym s.0), rw there (last_stands one.tree i.rest j.rest (H level.Whole i j one r) x.0))
 
@@ -240,7 +223,7 @@ module _ (inner : Level → Reader Found) (H : (l : Level) (i k : Input) (f : Fo
     where
       by_none : (b : Bool) → sees (codes ")") i ≡ b → (if b then pure no_nodes else list inner) (if b then next i else i) ≡ Ok (found, k) → Arguments (exprs_of found.trees) i.rest k.rest
       by_none true e h =
-          let s = same_ok no_nodes found (next i) k h in
+          let s = same_outcome {E = Fault} no_nodes found (next i) k h in
           rw (← s.0, ← s.1) (none_stands i.rest e)
       by_none false e h =
           let x = list_sound (left i) no_nodes found i k h in
@@ -255,20 +238,20 @@ module _ (inner : Level → Reader Found) (H : (l : Level) (i k : Input) (f : Fo
           let p = map_ok (called (line i) (spelling i)) (arguments inner (next (next i))) f k h in
           moved (Stood level.Unary i) (called (line i) (spelling i) p.0) f k k p.2 refl (call_stands (exprs_of p.0.trees) i.last i.rest k.rest w e (arguments_sound p.0 (next (next i)) k p.1))
       by_call false e h =
-          let s = same_ok (leaf (t.Var (line i) (spelling i))) f (next i) k h in
+          let s = same_outcome {E = Fault} (leaf (t.Var (line i) (spelling i))) f (next i) k h in
           moved (Stood level.Unary i) (leaf (t.Var (line i) (spelling i))) f (next i) k (sym s.0) (sym s.1) (name_stands i.last i.rest w)
 
   cast_sound : (i k : Input) (f : Found) → sees (codes "(") i ≡ true → cast inner (line i) (next i) ≡ Ok (f, k) → Unary f.tree i.rest k.rest
   unfolding cast sees next line
   cast_sound i k f e h =
-      let p = bind_ok (a_type (next i)) (λ to. expect (codes ")") >> (above (t.Cast (line i) to) <$> inner level.Unary)) f k h in
-      let q = bind_ok (expect (codes ")") p.1) (λ _. above (t.Cast (line i) p.0) <$> inner level.Unary) f k p.3 in
+      let p = bind_ok (a_type (next i)) (λ to. expect (codes ")") >> (above (t.Cast (line i) to) <$> inner level.Unary)) (f, k) h in
+      let q = bind_ok (expect (codes ")") p.1) (λ _. above (t.Cast (line i) p.0) <$> inner level.Unary) (f, k) p.3 in
       let x = expect_ok (codes ")") p.1 q.1 q.0 q.2 in
       let r = map_ok (above (t.Cast (line i) p.0)) (inner level.Unary q.1) f k q.3 in
       moved (Stood level.Unary i) (above (t.Cast (line i) p.0) r.0) f k k r.2 refl
       (cast_stands p.0 r.0.tree i.last i.rest p.1.rest q.1.rest k.rest e (a_type_sound (next i) p.1 p.0 p.2) x.0 (ap (λ (j : Input). j.rest) x.1) (H level.Unary q.1 k r.0 r.1))
 
-  pub unary_sound : (i k : Input) (f : Found) → unary inner i ≡ Ok (f, k) → Unary f.tree i.rest k.rest
+  unary_sound : (i k : Input) (f : Found) → unary inner i ≡ Ok (f, k) → Unary f.tree i.rest k.rest
   unfolding unary after sees next line sort_of sees_name spelling
   unary_sound i k f h = by_cast (sees (codes "(") i) refl h
     where
@@ -278,10 +261,10 @@ module _ (inner : Level → Reader Found) (H : (l : Level) (i k : Input) (f : Fo
 
       by_sort : (found : Option Sort) → sort_at i.rest ≡ found → term inner (line i) found i ≡ Ok (f, k) → Unary f.tree i.rest k.rest
       by_sort (Some (sort.Numeral value)) e h =
-          let s = same_ok (leaf (t.Num (line i) value)) f (next i) k h in
+          let s = same_outcome {E = Fault} (leaf (t.Num (line i) value)) f (next i) k h in
           moved (Stood level.Unary i) (leaf (t.Num (line i) value)) f (next i) k (sym s.0) (sym s.1) (int_stands value i.last i.rest e)
       by_sort (Some sort.Quoted) e h =
-          let s = same_ok (leaf (t.Str (line i) (spelling i))) f (next i) k h in
+          let s = same_outcome {E = Fault} (leaf (t.Str (line i) (spelling i))) f (next i) k h in
           moved (Stood level.Unary i) (leaf (t.Str (line i) (spelling i))) f (next i) k (sym s.0) (sym s.1) (text_stands i.last i.rest e)
       by_sort found e h = by_name (sees_name i) refl h
 
@@ -293,20 +276,20 @@ module _ (inner : Level → Reader Found) (H : (l : Level) (i k : Input) (f : Fo
   unfolding climb next
   climb_sound below zero operands line left f s i k x h = by_op (operator operands i) h
     where
-      by_op : (o : Option BinaryOp) → on o (pure left) (λ op. too_deep) i ≡ Ok (f, k) → Climbs operands line f.tree s k
-      by_op None h = let e = same_ok left f i k h in moved (λ (n : Found) j. Climbs operands line n.tree s j) left f i k (sym e.0) (sym e.1) x
+      by_op : (o : Option BinaryOp) → option_map_or {U = Reader Found} (λ op. too_deep) o (pure left) i ≡ Ok (f, k) → Climbs operands line f.tree s k
+      by_op None h = let e = same_outcome {E = Fault} left f i k h in moved (λ (n : Found) j. Climbs operands line n.tree s j) left f i k (sym e.0) (sym e.1) x
       by_op (Some op) h = absurd cc
   climb_sound below (suc n) operands line left f s i k x h = by_op (λ op right j y. climb_sound below n operands line (joined line op left right) f s j k y) (operator operands i) refl h
     where
       by_op : ((op : BinaryOp) (right : Found) (j : Input) → Climbs operands line (joined line op left right).tree s j → climb inner below operands line n (joined line op left right) j ≡ Ok (f, k) → Climbs operands line f.tree s k)
-          → (o : Option BinaryOp) → operator operands i ≡ o → on o (pure left) (λ op. if nat_lt below left.height then too_deep else (do take_token; right ← inner operands; climb inner below operands line n (joined line op left right))) i ≡ Ok (f, k) → Climbs operands line f.tree s k
-      by_op again None e h = let e' = same_ok left f i k h in moved (λ (n : Found) j. Climbs operands line n.tree s j) left f i k (sym e'.0) (sym e'.1) x
+          → (o : Option BinaryOp) → operator operands i ≡ o → option_map_or {U = Reader Found} (λ op. if nat_lt below left.height then too_deep else (do take_token; right ← inner operands; climb inner below operands line n (joined line op left right))) o (pure left) i ≡ Ok (f, k) → Climbs operands line f.tree s k
+      by_op again None e h = let e' = same_outcome {E = Fault} left f i k h in moved (λ (n : Found) j. Climbs operands line n.tree s j) left f i k (sym e'.0) (sym e'.1) x
       by_op again (Some op) e h = by_deep (nat_lt below left.height) h
         where
           by_deep : (b : Bool) → (if b then too_deep else (do take_token; right ← inner operands; climb inner below operands line n (joined line op left right))) i ≡ Ok (f, k) → Climbs operands line f.tree s k
           by_deep true h = absurd cc
           by_deep false h =
-              let p = bind_ok (inner operands (next i)) (λ right. climb inner below operands line n (joined line op left right)) f k h in
+              let p = bind_ok (inner operands (next i)) (λ right. climb inner below operands line n (joined line op left right)) (f, k) h in
               again op p.0 p.1 (grown operands op line left.tree p.0.tree s i p.1 e x (H operands (next i) p.1 p.0 p.2)) p.3
 
   first_climbs : (a : ExprTree) (i j : Input) → Unary a i.rest j.rest → Climbs level.Unary (line i) a i j
@@ -316,13 +299,13 @@ module _ (inner : Level → Reader Found) (H : (l : Level) (i k : Input) (f : Fo
   sum_sound : (below : ℕ) (i k : Input) (f : Found) → sum inner below i ≡ Ok (f, k) → Sum f.tree i.rest k.rest
   unfolding sum
   sum_sound below i k f h =
-      let p = bind_ok (unary inner i) (λ left. climb inner below level.Unary (line i) below left) f k h in
+      let p = bind_ok (unary inner i) (λ left. climb inner below level.Unary (line i) below left) (f, k) h in
       (climb_sound below below level.Unary (line i) p.0 f i p.1 k (first_climbs p.0.tree i p.1 (unary_sound i p.1 p.0 p.2)) p.3).stands
 
   comparison_sound : (below : ℕ) (first f : Found) (i j k : Input) → Unary first.tree i.rest j.rest → comparison inner below (line i) first j ≡ Ok (f, k) → Whole f.tree i.rest k.rest
   unfolding comparison
   comparison_sound below first f i j k x h =
-      let p = bind_ok (climb inner below level.Unary (line i) below first j) (λ left. climb inner below level.Sum (line i) below left) f k h in
+      let p = bind_ok (climb inner below level.Unary (line i) below first j) (λ left. climb inner below level.Sum (line i) below left) (f, k) h in
       let y = climb_sound below below level.Unary (line i) first p.0 i j p.1 (first_climbs first.tree i j x) p.2 in
       g.is_comparison (climb_sound below below level.Sum (line i) p.0 f i p.1 k (record { stands = g.is_sum y.stands; line_is = y.line_is }) p.3).stands
 
@@ -330,7 +313,7 @@ module _ (inner : Level → Reader Found) (H : (l : Level) (i k : Input) (f : Fo
   unfolding assignment sees next line
   assignment_sound below first f i j k x e h = by_place (place_of first.tree) refl h
     where
-      by_place : (o : Option PlaceTree) → place_of first.tree ≡ o → on o refuse (λ place. if nat_lt below first.height then too_deep else (take_token >> (assigned (line i) place first.height <$> inner level.Whole))) j ≡ Ok (f, k) → Whole f.tree i.rest k.rest
+      by_place : (o : Option PlaceTree) → place_of first.tree ≡ o → option_map_or {U = Reader Found} (λ place. if nat_lt below first.height then too_deep else (take_token >> (assigned (line i) place first.height <$> inner level.Whole))) o refuse j ≡ Ok (f, k) → Whole f.tree i.rest k.rest
       by_place None is h = absurd cc
       by_place (Some p) is h = by_deep (nat_lt below first.height) h
         where
@@ -338,14 +321,15 @@ module _ (inner : Level → Reader Found) (H : (l : Level) (i k : Input) (f : Fo
           by_deep true h = absurd cc
           by_deep false h =
               let q = map_ok (assigned (line i) p first.height) (inner level.Whole (next j)) f k h in
-              let line_is : line i ≡ line_of_place p = unary_line first.tree i.rest j.rest i.last x ∙ sym (place_line first.tree p is) in
-              let stands = set_stands p q.0.tree i.rest j.rest k.rest (place_sound first.tree p i.rest j.rest is x) e (H level.Whole (next j) k q.0 q.1) in
+              let place = place_sound first.tree p i.rest j.rest is x in
+              let line_is : line i ≡ line_of_place p = place_first p i.rest j.rest i.last place in
+              let stands = set_stands p q.0.tree i.rest j.rest k.rest place e (H level.Whole (next j) k q.0 q.1) in
               moved (Stood level.Whole i) (assigned (line i) p first.height q.0) f k k q.2 refl (subst (λ (l : ℕ). Whole (t.Set l p q.0.tree) i.rest k.rest) (sym line_is) stands)
 
   whole_sound : (below : ℕ) (i k : Input) (f : Found) → whole inner below i ≡ Ok (f, k) → Whole f.tree i.rest k.rest
   unfolding whole
   whole_sound below i k f h =
-      let p = bind_ok (unary inner i) (λ first j. if sees (codes "=") j then assignment inner below (line i) first j else comparison inner below (line i) first j) f k h in
+      let p = bind_ok (unary inner i) (λ first j. if sees (codes "=") j then assignment inner below (line i) first j else comparison inner below (line i) first j) (f, k) h in
       by_set p.0 p.1 (unary_sound i p.1 p.0 p.2) (sees (codes "=") p.1) refl p.3
     where
       by_set : (first : Found) (j : Input) → Unary first.tree i.rest j.rest → (b : Bool) → sees (codes "=") j ≡ b → (if b then assignment inner below (line i) first j else comparison inner below (line i) first j) ≡ Ok (f, k) → Whole f.tree i.rest k.rest

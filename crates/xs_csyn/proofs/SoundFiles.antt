@@ -14,8 +14,8 @@ use Rattle.xs_csyn.specs.declared.tree.CFile.{CFile}
 use Rattle.xs_csyn.specs.declared.tree.CType.{CType}
 use Rattle.xs_csyn.specs.declared.tree.PerlForm.TheVariants as form
 use Rattle.xs_csyn.specs.Tree as t
-use Rattle.xs_csyn.specs.Tree.{ExprTree, PlaceTree, StmtTree, FunctionTree, ItemTree, XsFunction, FileTree, stmts_of}
-use Rattle.xs_csyn.specs.Input.{Input, Outcome, Reader, is_sign, is_key, is_key_sort, is_name, is_quoted, sees, sees_key, sees_type, sees_name, line, line_at, next, after, expect, expect_key, refuse, text_at, spelling, left, too_deep, a_name}
+use Rattle.xs_csyn.specs.Tree.{ExprTree, StmtTree, FunctionTree, ItemTree, XsFunction, FileTree, stmts_of}
+use Rattle.xs_csyn.specs.Input.{Input, Reader, is_sign, is_key, is_key_sort, is_name, is_quoted, sees, sees_key, sees_type, sees_name, line, line_at, next, after, expect, expect_key, refuse, text_at, spelling, left, too_deep, a_name}
 use Rattle.xs_base.specs.Readers.{head_is, tail, pure, ◌>>◌, ◌>>=◌}
 use Rattle.xs_csyn.specs.Exprs.{Found, expr, a_type}
 use Rattle.xs_csyn.specs.Stmts.{max_nesting, an_expr, is_word_form, is_new_xs, begins_new_xs, ends_new_xs, form_of, sees_word_form, sees_new_xs, word_form, new_xs, effect, simple, declaration, part, parts_from, parts, block, condition, opens, stmt}
@@ -23,21 +23,19 @@ use Rattle.xs_csyn.specs.Files.{body_begins, function, items_from, items, file_w
 use Rattle.xs_ctok.specs.Tokens.{tokens_of}
 use Rattle.xs_csyn.specs.View.{file_tree}
 use Rattle.xs_csyn.specs.Grammar as g
-use Rattle.xs_csyn.specs.Grammar.{Whole, Comparison, Sum, APlace, AType, Declaration, Statement, Parts, File, IsTextOf, line_of, line_of_place}
+use Rattle.xs_csyn.specs.Grammar.{Whole, Comparison, Sum, AType, Declaration, Statement, Parts, File, IsTextOf, line_of}
 use Rattle.xs_values.specs.declared.model.DataModel.TheVariants as model
-use Rattle.xs_csyn.proofs.Sound.{same_ok, bind_ok, map_ok, taken_ok, passed_ok, expect_ok, moved, GoesOn, unary_line, expr_sound, a_type_sound}
+use Rattle.xs_base.proofs.ReaderSteps.{same_outcome, bind_ok, map_ok}
+use Rattle.xs_base.proofs.Stages.{bound}
+use Rattle.xs_csyn.proofs.Sound.{taken_ok, passed_ok, expect_ok, moved, GoesOn, unary_line, place_first, expr_sound, a_type_sound}
 
 -- ---- lines
-
-pub place_first : (p : PlaceTree) (ts us : List Token) (last : ℕ) → APlace p ts us → line_at last ts ≡ line_of_place p
-place_first p ts us last (g.variable n) = refl
-place_first p ts us last (g.st n e op x cl) = refl
 
 pub sum_line : (a : ExprTree) (ts us : List Token) (last : ℕ) → Sum a ts us → line_at last ts ≡ line_of a
 sum_line a ts us last (g.add {a = b} {ts = ts'} x is y) = sum_line b ts' _ last x
 sum_line a ts us last (g.is_unary x) = unary_line a ts us last x
 
-pub comparison_line : (a : ExprTree) (ts us : List Token) (last : ℕ) → Comparison a ts us → line_at last ts ≡ line_of a
+comparison_line : (a : ExprTree) (ts us : List Token) (last : ℕ) → Comparison a ts us → line_at last ts ≡ line_of a
 comparison_line a ts us last (g.not_equal {a = b} {ts = ts'} x is y) = comparison_line b ts' _ last x
 comparison_line a ts us last (g.is_sum x) = sum_line a ts us last x
 
@@ -124,7 +122,7 @@ Stood i s k = Statement s i.rest k.rest
 word_form_sound : (i k : Input) (s : StmtTree) → is_word_form i.rest ≡ true → word_form i ≡ Ok (s, k) → Statement s i.rest k.rest
 unfolding word_form line spelling next
 word_form_sound i k s e h =
-    let q = same_ok (t.Perl (line i) (form_of (spelling i))) s (next (next i)) k h in
+    let q = same_outcome {E = Fault} (t.Perl (line i) (form_of (spelling i))) s (next (next i)) k h in
     moved (Stood i) (t.Perl (line i) (form_of (spelling i))) s (next (next i)) k (sym q.0) (sym q.1) (word_stands i.last i.rest e)
 
 new_xs_sound : (i k : Input) (s : StmtTree) → is_new_xs i.rest ≡ true → new_xs i ≡ Ok (s, k) → Statement s i.rest k.rest
@@ -132,16 +130,16 @@ unfolding new_xs line spelling next
 new_xs_sound i k s e h =
     let made : StmtTree = t.Perl (line i) (form.NewXs (text_at (tail (tail i.rest))) (text_at (tail (tail (tail (tail i.rest)))))) in
     let there : Input = next (next (next (next (next (next (next i)))))) in
-    let q = same_ok made s there k h in
+    let q = same_outcome {E = Fault} made s there k h in
     moved (Stood i) made s there k (sym q.0) (sym q.1) (new_xs_stands i.last i.rest e)
 
 effect_sound : (i k : Input) (s : StmtTree) → is_word_form i.rest ≡ false → is_new_xs i.rest ≡ false → effect i ≡ Ok (s, k) → Statement s i.rest k.rest
 unfolding effect line next
 effect_sound i k s w n h =
-    let p = bind_ok (an_expr i) (λ a. expect (codes ";") >> pure (t.Effect (line i) a)) s k h in
-    let q = bind_ok (expect (codes ";") p.1) (λ _. pure (t.Effect (line i) p.0)) s k p.3 in
+    let p = bind_ok (an_expr i) (λ a. expect (codes ";") >> pure (t.Effect (line i) a)) (s, k) h in
+    let q = bind_ok (expect (codes ";") p.1) (λ _. pure (t.Effect (line i) p.0)) (s, k) p.3 in
     let x = expect_ok (codes ";") p.1 q.1 q.0 q.2 in
-    let r = same_ok (t.Effect (line i) p.0) s q.1 k q.3 in
+    let r = same_outcome {E = Fault} (t.Effect (line i) p.0) s q.1 k q.3 in
     moved (Stood i) (t.Effect (line i) p.0) s (next p.1) k (sym r.0) (sym r.1 ∙ x.1) (effect_stands p.0 i.last i.rest p.1.rest w n (an_expr_sound i p.1 p.0 p.2) x.0)
 
 simple_sound : (i k : Input) (s : StmtTree) → simple i ≡ Ok (s, k) → Statement s i.rest k.rest
@@ -159,12 +157,12 @@ simple_sound i k s h = by_word (is_word_form i.rest) refl h
 declaration_sound : (i k : Input) (s : StmtTree) → declaration i ≡ Ok (s, k) → Declaration s i.rest k.rest
 unfolding declaration line next
 declaration_sound i k s h =
-    let p = bind_ok (a_type i) (λ to. a_name >>= λ name. expect (codes ";") >> pure (t.Declare (line i) to name)) s k h in
-    let q = bind_ok (a_name p.1) (λ name. expect (codes ";") >> pure (t.Declare (line i) p.0 name)) s k p.3 in
+    let p = bind_ok (a_type i) (λ to. a_name >>= λ name. expect (codes ";") >> pure (t.Declare (line i) to name)) (s, k) h in
+    let q = bind_ok (a_name p.1) (λ name. expect (codes ";") >> pure (t.Declare (line i) p.0 name)) (s, k) p.3 in
     let n = a_name_ok p.1 q.1 q.0 q.2 in
-    let r = bind_ok (expect (codes ";") q.1) (λ _. pure (t.Declare (line i) p.0 q.0)) s k q.3 in
+    let r = bind_ok (expect (codes ";") q.1) (λ _. pure (t.Declare (line i) p.0 q.0)) (s, k) q.3 in
     let x = expect_ok (codes ";") q.1 r.1 r.0 r.2 in
-    let e = same_ok (t.Declare (line i) p.0 q.0) s r.1 k r.3 in
+    let e = same_outcome {E = Fault} (t.Declare (line i) p.0 q.0) s r.1 k r.3 in
     let semicolon : head_is (is_sign (codes ";")) (tail p.1.rest) ≡ true = ap (λ (j : Input). head_is (is_sign (codes ";")) j.rest) (sym n.2) ∙ x.0 in
     moved (λ (d : StmtTree) (j : Input). Declaration d i.rest j.rest) (t.Declare (line i) p.0 (text_at p.1.rest)) s (next (next p.1)) k (sym e.0 ∙ ap (λ name. t.Declare (line i) p.0 name) n.1) (sym e.1 ∙ x.1 ∙ ap next n.2)
     (declared_stands p.0 i.last i.rest p.1.rest (a_type_sound i p.1 p.0 p.2) n.0 semicolon)
@@ -192,15 +190,15 @@ module _ (inner : Reader StmtTree) (H : (i k : Input) (s : StmtTree) → inner i
       by : ((s : StmtTree) (j : Input) → parts_from inner n (done ++ s ∷ []) j ≡ Ok (found, k) → GoesOn (done ++ s ∷ []) found (MoreParts j k))
           → (b : Bool) → sees (codes "}") i ≡ b → (if b then pure done else (part inner >>= λ one. parts_from inner n (done ++ one ∷ []))) (if b then next i else i) ≡ Ok (found, k) → GoesOn done found (MoreParts i k)
       by again true e h =
-          let s = same_ok done found (next i) k h in
+          let s = same_outcome {E = Fault} done found (next i) k h in
           let there : k.rest ≡ tail i.rest = ap (λ (j : Input). j.rest) (sym s.1) in
           ([], sym s.0 ∙ sym (append-nil done), rw there (over_stands i.rest e))
       by again false e h =
-          let p = bind_ok (part inner i) (λ one. parts_from inner n (done ++ one ∷ [])) found k h in
+          let p = bind_ok (part inner i) (λ one. parts_from inner n (done ++ one ∷ [])) (found, k) h in
           let rest = again p.0 p.1 p.3 in
           (p.0 ∷ rest.0, rest.1 ∙ append_assoc done (p.0 ∷ []) rest.0, part_sound i p.1 k p.0 (stmts_of rest.0) p.2 rest.2)
 
-  pub parts_sound : (i k : Input) (found : List StmtTree) → parts inner i ≡ Ok (found, k) → Parts (stmts_of found) i.rest k.rest
+  parts_sound : (i k : Input) (found : List StmtTree) → parts inner i ≡ Ok (found, k) → Parts (stmts_of found) i.rest k.rest
   unfolding parts
   parts_sound i k found h = let x = parts_from_sound (left i) [] found i k h in rw x.1 x.2
 
@@ -213,17 +211,17 @@ module _ (inner : Reader StmtTree) (H : (i k : Input) (s : StmtTree) → inner i
   condition_sound : (i k : Input) (s : StmtTree) → sees_key (codes "if") i ≡ true → condition inner i ≡ Ok (s, k) → Statement s i.rest k.rest
   unfolding condition sees_key line next
   condition_sound i k s e h =
-      let o = bind_ok (expect (codes "(") (next i)) (λ _. an_expr >>= λ test. expect (codes ")") >> (inner >>= λ then_do. pure (t.If (line i) test then_do))) s k h in
+      let o = bind_ok (expect (codes "(") (next i)) (λ _. an_expr >>= λ test. expect (codes ")") >> (inner >>= λ then_do. pure (t.If (line i) test then_do))) (s, k) h in
       let ox = expect_ok (codes "(") (next i) o.1 o.0 o.2 in
-      let p = bind_ok (an_expr o.1) (λ test. expect (codes ")") >> (inner >>= λ then_do. pure (t.If (line i) test then_do))) s k o.3 in
-      let c = bind_ok (expect (codes ")") p.1) (λ _. inner >>= λ then_do. pure (t.If (line i) p.0 then_do)) s k p.3 in
+      let p = bind_ok (an_expr o.1) (λ test. expect (codes ")") >> (inner >>= λ then_do. pure (t.If (line i) test then_do))) (s, k) o.3 in
+      let c = bind_ok (expect (codes ")") p.1) (λ _. inner >>= λ then_do. pure (t.If (line i) p.0 then_do)) (s, k) p.3 in
       let cx = expect_ok (codes ")") p.1 c.1 c.0 c.2 in
       let q = map_ok (λ then_do. t.If (line i) p.0 then_do) (inner c.1) s k c.3 in
       let test : Whole p.0 (tail (tail i.rest)) p.1.rest = rw (← ap (λ (j : Input). j.rest) ox.1) (an_expr_sound o.1 p.1 p.0 p.2) in
       moved (Stood i) (t.If (line i) p.0 q.0) s k k q.2 refl
       (condition_stands p.0 q.0 i.last i.rest p.1.rest c.1.rest k.rest e ox.0 test cx.0 (ap (λ (j : Input). j.rest) cx.1) (H c.1 k q.0 q.1))
 
-pub stmt_sound : (room : ℕ) (i k : Input) (s : StmtTree) → stmt room i ≡ Ok (s, k) → Statement s i.rest k.rest
+stmt_sound : (room : ℕ) (i k : Input) (s : StmtTree) → stmt room i ≡ Ok (s, k) → Statement s i.rest k.rest
 unfolding stmt
 stmt_sound zero i k s h = by (opens i) h
   where
@@ -251,7 +249,7 @@ unfolding body_begins sees_key
 body_begins_ok i k u h = go (head_is (is_key (codes "dXSARGS")) i.rest) refl h
   where
     go : (b : Bool) → head_is (is_key (codes "dXSARGS")) i.rest ≡ b → (if b then Ok (tt, i) else refuse i) ≡ Ok (u, k) → (head_is (is_key (codes "dXSARGS")) i.rest ≡ true) × (k ≡ i)
-    go true e h = (e, sym (same_ok tt u i k h).1)
+    go true e h = (e, sym (same_outcome {E = Fault} tt u i k h).1)
     go false e h = absurd cc
 
 function_stands : (body : t.StmtTrees) (all : List ItemTree) (last : ℕ) (ts us : List Token) → head_is (is_key (codes "XS")) ts ≡ true → head_is (is_sign (codes "(")) (tail ts) ≡ true → head_is is_name (tail (tail ts)) ≡ true → head_is (is_sign (codes ")")) (tail (tail (tail ts))) ≡ true
@@ -263,17 +261,17 @@ function_stands body all last ts us k o n c b d x r = absurd cc
 function_sound : (i k : Input) (f : FunctionTree) (all : List ItemTree) → function i ≡ Ok (f, k) → File all k.rest → File (XsFunction f ∷ all) i.rest
 unfolding function line next
 function_sound i k f all h rest =
-    let a = bind_ok (expect_key (codes "XS") i) (λ _. expect (codes "(") >> (a_name >>= λ name. expect (codes ")") >> (expect (codes "{") >> (body_begins >> (parts (stmt (max_nesting - 1)) >>= λ body. pure (made name body)))))) f k h in
+    let a = bind_ok (expect_key (codes "XS") i) (λ _. expect (codes "(") >> (a_name >>= λ name. expect (codes ")") >> (expect (codes "{") >> (body_begins >> (parts (stmt (max_nesting - 1)) >>= λ body. pure (made name body)))))) (f, k) h in
     let ax = expect_key_ok (codes "XS") i a.1 a.0 a.2 in
-    let b = bind_ok (expect (codes "(") a.1) (λ _. a_name >>= λ name. expect (codes ")") >> (expect (codes "{") >> (body_begins >> (parts (stmt (max_nesting - 1)) >>= λ body. pure (made name body))))) f k a.3 in
+    let b = bind_ok (expect (codes "(") a.1) (λ _. a_name >>= λ name. expect (codes ")") >> (expect (codes "{") >> (body_begins >> (parts (stmt (max_nesting - 1)) >>= λ body. pure (made name body))))) (f, k) a.3 in
     let bx = expect_ok (codes "(") a.1 b.1 b.0 b.2 in
-    let c = bind_ok (a_name b.1) (λ name. expect (codes ")") >> (expect (codes "{") >> (body_begins >> (parts (stmt (max_nesting - 1)) >>= λ body. pure (made name body))))) f k b.3 in
+    let c = bind_ok (a_name b.1) (λ name. expect (codes ")") >> (expect (codes "{") >> (body_begins >> (parts (stmt (max_nesting - 1)) >>= λ body. pure (made name body))))) (f, k) b.3 in
     let cx = a_name_ok b.1 c.1 c.0 c.2 in
-    let d = bind_ok (expect (codes ")") c.1) (λ _. expect (codes "{") >> (body_begins >> (parts (stmt (max_nesting - 1)) >>= λ body. pure (made c.0 body)))) f k c.3 in
+    let d = bind_ok (expect (codes ")") c.1) (λ _. expect (codes "{") >> (body_begins >> (parts (stmt (max_nesting - 1)) >>= λ body. pure (made c.0 body)))) (f, k) c.3 in
     let dx = expect_ok (codes ")") c.1 d.1 d.0 d.2 in
-    let e = bind_ok (expect (codes "{") d.1) (λ _. body_begins >> (parts (stmt (max_nesting - 1)) >>= λ body. pure (made c.0 body))) f k d.3 in
+    let e = bind_ok (expect (codes "{") d.1) (λ _. body_begins >> (parts (stmt (max_nesting - 1)) >>= λ body. pure (made c.0 body))) (f, k) d.3 in
     let ex = expect_ok (codes "{") d.1 e.1 e.0 e.2 in
-    let m = bind_ok (body_begins e.1) (λ _. parts (stmt (max_nesting - 1)) >>= λ body. pure (made c.0 body)) f k e.3 in
+    let m = bind_ok (body_begins e.1) (λ _. parts (stmt (max_nesting - 1)) >>= λ body. pure (made c.0 body)) (f, k) e.3 in
     let mx = body_begins_ok e.1 m.1 m.0 m.2 in
     let p = map_ok (made c.0) (parts (stmt (max_nesting - 1)) m.1) f k m.3 in
     let at1 : a.1.rest ≡ tail i.rest = ap (λ (j : Input). j.rest) ax.1 in
@@ -308,15 +306,15 @@ unfolding items_from left
 items_sound zero done found i k h = by (length i.rest == 0) refl h
   where
     by : (b : Bool) → (length i.rest == 0) ≡ b → (if b then Ok (done, i) else refuse i) ≡ Ok (found, k) → GoesOn done found (MoreItems i)
-    by true e h = let s = same_ok done found i k h in ([], sym s.0 ∙ sym (append-nil done), nothing_left i.rest (eqb-true (length i.rest) 0 e))
+    by true e h = let s = same_outcome {E = Fault} done found i k h in ([], sym s.0 ∙ sym (append-nil done), nothing_left i.rest (eqb-true (length i.rest) 0 e))
     by false e h = absurd cc
 items_sound (suc n) done found i k h = by (λ one j h'. items_sound n (done ++ XsFunction one ∷ []) found j k h') (length i.rest == 0) refl h
   where
     by : ((one : FunctionTree) (j : Input) → items_from n (done ++ XsFunction one ∷ []) j ≡ Ok (found, k) → GoesOn (done ++ XsFunction one ∷ []) found (MoreItems j))
         → (b : Bool) → (length i.rest == 0) ≡ b → (if b then Ok (done, i) else (function >>= λ one. items_from n (done ++ XsFunction one ∷ [])) i) ≡ Ok (found, k) → GoesOn done found (MoreItems i)
-    by again true e h = let s = same_ok done found i k h in ([], sym s.0 ∙ sym (append-nil done), nothing_left i.rest (eqb-true (length i.rest) 0 e))
+    by again true e h = let s = same_outcome {E = Fault} done found i k h in ([], sym s.0 ∙ sym (append-nil done), nothing_left i.rest (eqb-true (length i.rest) 0 e))
     by again false e h =
-        let p = bind_ok (function i) (λ one. items_from n (done ++ XsFunction one ∷ [])) found k h in
+        let p = bind_ok (function i) (λ one. items_from n (done ++ XsFunction one ∷ [])) (found, k) h in
         let rest = again p.0 p.1 p.3 in
         (XsFunction p.0 ∷ rest.0, rest.1 ∙ append_assoc done (XsFunction p.0 ∷ []) rest.0, function_sound i p.1 p.0 rest.0 p.2 rest.2)
 
@@ -325,22 +323,17 @@ items_are found file h = let same : record { model = model.Lp64; items = found }
 
 tree_sound : (i : Input) (file : FileTree) → tree_of i ≡ Ok file → File file.items i.rest
 unfolding tree_of items
-tree_sound i file h = by (items_from (left i) [] i) refl h
-  where
-    by : (o : Outcome (List ItemTree)) → items_from (left i) [] i ≡ o → file_with o ≡ Ok file → File file.items i.rest
-    by (Ok p) e h =
-        let x = items_sound (left i) [] p.0 i p.1 e in
-        let all : File p.0 i.rest = rw x.1 x.2 in
-        subst (MoreItems i) (sym (items_are p.0 file h)) all
-    by (Err f) e h = absurd cc
+tree_sound i file h =
+    let read = bound (items_from (left i) [] i) file_with file h in
+    let x = items_sound (left i) [] read.at.0 i read.at.1 read.was in
+    let all : File read.at.0 i.rest = rw x.1 x.2 in
+    subst (MoreItems i) (sym (items_are read.at.0 file read.then_is)) all
 
 file_sound : (kind : FileOf) (bytes : List ℕ) (file : FileTree) → file_of kind bytes ≡ Ok file → IsTextOf kind bytes file.items
 unfolding file_of
-file_sound kind bytes file h = by (tokens_of kind bytes) refl h
-  where
-    by : (r : Result (List Token) Fault) → tokens_of kind bytes ≡ r → tree_in kind (last_line bytes) r ≡ Ok file → IsTextOf kind bytes file.items
-    by (Ok all) e h = record { all = all; cut = e; stands = tree_sound (record { rest = all; file = kind; last = last_line bytes }) file h }
-    by (Err f) e h = absurd cc
+file_sound kind bytes file h =
+    let cut = bound (tokens_of kind bytes) (tree_in kind (last_line bytes)) file h in
+    record { all = cut.at; cut = cut.was; stands = tree_sound (record { rest = cut.at; file = kind; last = last_line bytes }) file cut.then_is }
 
 -- What is read as a file is one by the rules.
 pub read_sound : (r : Result CFile Refuse) (kind : FileOf) (bytes : List ℕ) → GivesBy file_tree r (file_of kind bytes) → IfOk r (λ file. IsTextOf kind bytes (file_tree file).items)

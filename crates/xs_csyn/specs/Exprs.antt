@@ -1,5 +1,8 @@
 -- Expressions. Each rule takes, as `inner`, the expressions that stand one level down.
-use Rattle.std.specs.Prelude.{ℕ, zero, suc, ◌+◌, if◌then◌else◌, nat_lt, max, List, [], ◌∷◌, ◌++◌, Option, Some, None, codes}
+use Rattle.std.specs.Bool.{then_some}
+use Rattle.std.specs.List.{prefix_len}
+use Rattle.std.specs.Option.{option_map_or}
+use Rattle.std.specs.Prelude.{drop, ℕ, zero, suc, ◌+◌, if◌then◌else◌, nat_lt, max, List, [], ◌∷◌, ◌++◌, Option, Some, None, codes}
 use Rattle.std.specs.Str.{bytes_eq}
 use Rattle.xs_csyn.specs.declared.node.Level.{Level}
 use Rattle.xs_csyn.specs.declared.node.Level.TheVariants as level
@@ -36,8 +39,8 @@ joined line op a b = record { tree = Two line op a.tree b.tree; height = max a.h
 abbrev pub assigned : ℕ → PlaceTree → ℕ → Found → Found
 assigned line place height n = record { tree = Set line place n.tree; height = max height n.height + 1 }
 
-abbrev pub with_more : FoundAll → Found → FoundAll
-with_more all n = record { trees = all.trees ++ n.tree ∷ []; height = max all.height n.height }
+abbrev pub with_node : FoundAll → Found → FoundAll
+with_node all n = record { trees = all.trees ++ n.tree ∷ []; height = max all.height n.height }
 
 abbrev pub no_nodes : FoundAll
 no_nodes = record { trees = []; height = 0 }
@@ -59,23 +62,17 @@ place_of _ = None
 -- the operator that comes next, if it stands before operands of this level
 unfoldable pub operator : Level → Input → Option BinaryOp
 operator level.Whole i = None
-operator level.Sum i = if sees (codes "!=") i then Some op.NotEqual else None
-operator level.Unary i = if sees (codes "+") i then Some op.Add else None
-
-abbrev pub on : {A B : Type 0} → Option A → Reader B → (A → Reader B) → Reader B
-on None none some = none
-on (Some a) none some = some a
+operator level.Sum i = then_some (sees (codes "!=") i) op.NotEqual
+operator level.Unary i = then_some (sees (codes "+") i) op.Add
 
 -- ---- types
 
 -- how many `*` stand in front
 abbrev pub count_stars : List Token → ℕ
-count_stars [] = 0
-count_stars (t ∷ ts) = if is_sign (codes "*") t then count_stars ts + 1 else 0
+count_stars ts = prefix_len (is_sign (codes "*")) ts
 
 abbrev pub behind_stars : List Token → List Token
-behind_stars [] = []
-behind_stars (t ∷ ts) = if is_sign (codes "*") t then behind_stars ts else t ∷ ts
+behind_stars ts = drop (count_stars ts) ts
 
 unfoldable pub stars : Reader ℕ
 stars = λ i. let behind : Input = record i { rest = behind_stars i.rest } in pure (count_stars i.rest) behind
@@ -95,7 +92,7 @@ module _ (inner : Level → Reader Found) where
   list_from (suc n) all = do
     one ← inner level.Whole
     more ← eat (codes ",")
-    if more then list_from n (with_more all one) else (expect (codes ")") >> pure (with_more all one))
+    if more then list_from n (with_node all one) else (expect (codes ")") >> pure (with_node all one))
 
   unfoldable pub list : Reader FoundAll
   list = λ i. list_from (left i) no_nodes i
@@ -136,12 +133,12 @@ module _ (inner : Level → Reader Found) where
 module _ (inner : Level → Reader Found) (below : ℕ) where
   -- Operators that follow `left`, at most `n`. Each puts `left` one level down, so there can be no more than `below`.
   unfoldable pub climb : Level → ℕ → ℕ → Found → Reader Found
-  climb operands line zero left = λ i. on (operator operands i) (pure left) (λ op. too_deep) i
-  climb operands line (suc n) left = λ i. on (operator operands i) (pure left) (λ op.
+  climb operands line zero left = λ i. option_map_or {U = Reader Found} (λ op. too_deep) (operator operands i) (pure left) i
+  climb operands line (suc n) left = λ i. option_map_or {U = Reader Found} (λ op.
       if nat_lt below left.height then too_deep else (do
         take_token
         right ← inner operands
-        climb operands line n (joined line op left right))) i
+        climb operands line n (joined line op left right))) (operator operands i) (pure left) i
 
   unfoldable pub sum : Reader Found
   sum = do
@@ -151,10 +148,10 @@ module _ (inner : Level → Reader Found) (below : ℕ) where
 
   -- the mark of an assignment comes next
   unfoldable pub assignment : ℕ → Found → Reader Found
-  assignment line left = on (place_of left.tree) refuse (λ place.
+  assignment line left = option_map_or {U = Reader Found} (λ place.
       if nat_lt below left.height then too_deep else (do
         take_token
-        assigned line place left.height <$> inner level.Whole))
+        assigned line place left.height <$> inner level.Whole)) (place_of left.tree) refuse
 
   -- no such mark comes next
   unfoldable pub comparison : ℕ → Found → Reader Found

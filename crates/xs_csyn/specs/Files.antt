@@ -1,5 +1,5 @@
 -- Files of the C grammar.
-use Rattle.std.specs.Prelude.{ℕ, zero, suc, ◌-◌, ◌==◌, if◌then◌else◌, List, [], ◌∷◌, ◌++◌, codes, Result, Ok, Err}
+use Rattle.std.specs.Prelude.{ℕ, zero, suc, ◌-◌, ◌==◌, if◌then◌else◌, List, [], ◌∷◌, ◌++◌, codes, Result, Ok}
 use Rattle.xs_base.specs.declared.fault.Fault.{Fault}
 use Rattle.xs_base.specs.declared.place.FileOf.{FileOf}
 use Rattle.xs_base.specs.declared.place.Line.{Line}
@@ -7,7 +7,8 @@ use Rattle.xs_base.specs.Lines.{lines_of}
 use Rattle.xs_ctok.specs.declared.token.Token.{Token}
 use Rattle.xs_values.specs.declared.model.DataModel.TheVariants as model
 use Rattle.xs_csyn.specs.Tree.{FunctionTree, ItemTree, XsFunction, FileTree, stmts_of}
-use Rattle.xs_csyn.specs.Input.{Input, Reader, Outcome, refuse, here, expect, expect_key, sees_key, left, a_name}
+use Rattle.xs_csyn.specs.Input.{Input, Reader, refuse, here, expect, expect_key, sees_key, left, a_name}
+use Rattle.xs_base.specs.Reading as reading
 use Rattle.xs_base.specs.Readers.{◌>>=◌, ◌>>◌, pure}
 use Rattle.xs_csyn.specs.Stmts.{max_nesting, stmt, parts}
 use Rattle.xs_ctok.specs.Tokens.{tokens_of}
@@ -39,13 +40,12 @@ items_from (suc n) done = λ i. if left i == 0 then Ok (done, i) else (do
 unfoldable pub items : Reader (List ItemTree)
 items = λ i. items_from (left i) [] i
 
-abbrev pub file_with : Outcome (List ItemTree) → Result FileTree Fault
-file_with (Ok p) = Ok (record { model = model.Lp64; items = p.0 })
-file_with (Err fault) = Err fault
+abbrev pub file_with : List ItemTree × Input → Result FileTree Fault
+file_with read = Ok (record { model = model.Lp64; items = read.0 })
 
 -- the tokens as a file
 unfoldable pub tree_of : Input → Result FileTree Fault
-tree_of i = file_with (items i)
+tree_of i = reading.◌>>=◌ (items i) file_with
 
 -- the number of the last of the lines that is not empty, or of the line before them
 abbrev pub last_of : ℕ → List Line → ℕ
@@ -60,10 +60,9 @@ last_of n (line ∷ more) = last_of (last_here n line.text line.number) more
 unfoldable pub last_line : List ℕ → ℕ
 last_line bytes = last_of 1 (lines_of bytes)
 
-abbrev pub tree_in : FileOf → ℕ → Result (List Token) Fault → Result FileTree Fault
-tree_in file last (Ok all) = tree_of (record { rest = all; file = file; last = last })
-tree_in file last (Err fault) = Err fault
+abbrev pub tree_in : FileOf → ℕ → List Token → Result FileTree Fault
+tree_in file last all = tree_of (record { rest = all; file = file; last = last })
 
 -- The tree of a C text, or its first fault. A fault of tokens goes before one of the grammar.
 unfoldable pub file_of : FileOf → List ℕ → Result FileTree Fault
-file_of file bytes = tree_in file (last_line bytes) (tokens_of file bytes)
+file_of file bytes = reading.◌>>=◌ (tokens_of file bytes) (tree_in file (last_line bytes))

@@ -1,14 +1,14 @@
 -- What the grammar reads from, and the steps that its rules are made of.
-use Rattle.std.specs.Prelude.{◌≡◌, ℕ, Bool, true, false, not, ◌&&◌, if◌then◌else◌, List, [], ◌∷◌, length, Option, Some, None, Result, Ok, Err}
+use Rattle.std.specs.Prelude.{ℕ, Bool, true, false, not, ◌&&◌, if◌then◌else◌, List, [], ◌∷◌, length, Option, Some, None, Result, Ok, Err}
 use Rattle.std.specs.Str.{bytes_eq}
 use Rattle.xs_base.specs.declared.fault.Fault.{Fault}
 use Rattle.xs_base.specs.declared.fault.Refuse.{Refuse}
 use Rattle.xs_base.specs.declared.place.FileOf.{FileOf}
-use Rattle.xs_base.specs.Reading.{Fails}
+use Rattle.xs_base.specs.Reading.{GivesBy, fault_in}
 use Rattle.xs_ctok.specs.declared.token.Sort.{Sort}
 use Rattle.xs_ctok.specs.declared.token.Sort.TheVariants as sort
 use Rattle.xs_ctok.specs.declared.token.Token.{Token}
-use Rattle.xs_ctok.specs.Words.{no_names, type_words}
+use Rattle.xs_ctok.specs.Words.{is_no_name, type_words}
 use Rattle.xs_base.specs.Names.{is_among}
 use Rattle.xs_base.specs.Readers as readers
 use Rattle.xs_base.specs.Readers.{head_is, tail, pure, ◌>>◌}
@@ -50,7 +50,7 @@ is_type_word t = is_key_sort t.sort && is_among type_words t.text
 -- the token is a word that may be a name
 abbrev pub is_name_by : Sort → List ℕ → Bool
 is_name_by sort.Name text = true
-is_name_by sort.Key text = not (is_among no_names text)
+is_name_by sort.Key text = not (is_no_name text)
 is_name_by _ text = false
 
 abbrev pub is_name : Token → Bool
@@ -101,7 +101,7 @@ unfoldable pub left : Input → ℕ
 left i = length i.rest
 
 unfoldable pub fault : ℕ → Input → Fault
-fault code i = record { file = i.file; line = line i; code = code; word = [] }
+fault code i = fault_in i.file (line i) code []
 
 -- ---- readers
 
@@ -155,5 +155,4 @@ a_type_word = λ i. taken (sees_type i) i
 -- ---- what a function that reads ensures
 
 abbrev pub Reads : {X A : Type 0} → (X → A) → Outcome A → Result X Refuse → Input → Type 0
-Reads view outcome (Ok x) new = outcome ≡ Ok (view x, new)
-Reads view outcome (Err e) new = Fails e outcome
+Reads view outcome result new = GivesBy (λ x. (view x, new)) result outcome

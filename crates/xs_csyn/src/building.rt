@@ -11,6 +11,7 @@ use crate::{BinaryOp, CType, Expr, Place};
 use std::alloc::{AllocError, Global};
 use xs_base::Bytes;
 
+/// A node that has no others in it.
 #[tactic(auto, using(crate::proofs::Views::views))]
 pub fn leaf(tree: Expr) -> Node
     ensures { found result ≡ spec.leaf (plain tree) }
@@ -18,6 +19,7 @@ pub fn leaf(tree: Expr) -> Node
     Node { tree, height: 1 }
 }
 
+/// A node with its type in front.
 #[tactic(auto, using(crate::proofs::Views::views))]
 pub fn cast_to(alloc: Global, line: u32, to: CType, n: Node) -> Result<Node, AllocError>
     requires { n.height + 1 < 2 ^ 32 }
@@ -31,6 +33,7 @@ pub fn cast_to(alloc: Global, line: u32, to: CType, n: Node) -> Result<Node, All
     })
 }
 
+/// Two operands with the operator between them.
 #[tactic(auto, using(crate::proofs::Views::views))]
 pub fn joined(alloc: Global, line: u32, op: BinaryOp, a: Node, b: Node) -> Result<Node, AllocError>
     requires left { a.height + 1 < 2 ^ 32 }
@@ -60,6 +63,7 @@ pub fn assigned(
     Ok(Node { tree, height })
 }
 
+/// A call of a name with these arguments.
 #[tactic(auto, using(crate::proofs::Views::views))]
 pub fn called(line: u32, name: Bytes, all: Nodes) -> Node
     requires { all.height + 1 < 2 ^ 32 }
@@ -72,6 +76,7 @@ pub fn called(line: u32, name: Bytes, all: Nodes) -> Node
     }
 }
 
+/// No nodes yet.
 pub fn no_nodes(alloc: Global) -> Nodes
     ensures { found_all result ≡ spec.no_nodes }
 {
@@ -81,9 +86,10 @@ pub fn no_nodes(alloc: Global) -> Nodes
     }
 }
 
+/// The nodes with one more behind them.
 #[tactic(auto, using(crate::proofs::Views::views))]
-pub fn with_more(all: Nodes, one: Node) -> Result<Nodes, AllocError>
-    ensures { IfOk result (λ m. found_all m ≡ spec.with_more (found_all all) (found one)) }
+pub fn with_node(all: Nodes, one: Node) -> Result<Nodes, AllocError>
+    ensures { IfOk result (λ m. found_all m ≡ spec.with_node (found_all all) (found one)) }
 {
     let Nodes { mut trees, height } = all;
     trees.push(one.tree)?;

@@ -197,7 +197,7 @@ impl<'a> Cursor<'a> {
     }
 
     /// Takes the `*` that come next, and gives their number.
-    #[tactic(auto, using(crate::proofs::Stars::behind_stars_is), unfolding(crate::specs::Exprs::stars))]
+    #[tactic(auto, unfolding(crate::specs::Exprs::stars))]
     pub fn stars(&mut self) -> u32
         ensures { exprs.stars self.old ≡ Ok (result, self.new) }
     {
@@ -211,12 +211,7 @@ impl<'a> Cursor<'a> {
     pub fn refuse(&self, alloc: Global, code: u16) -> Refuse
         ensures { result ≡ refuse.Fault (spec.fault code self.now) }
     {
-        Refuse::Fault(Fault {
-            file: self.file,
-            line: self.line(),
-            code,
-            word: Bytes::new(alloc),
-        })
+        Refuse::Fault(Fault::bare(alloc, self.file, self.line(), code))
     }
 
     /// Takes the next token, if there is one, and gives its text.

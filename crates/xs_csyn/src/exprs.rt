@@ -5,7 +5,7 @@ ghost use Rattle.xs_csyn.specs.Exprs as spec;
 ghost use Rattle.xs_csyn.specs.Input.{Reads};
 ghost use Rattle.xs_csyn.specs.View.{found, found_all};
 
-use crate::building::{assigned, called, cast_to, joined, leaf, no_nodes, place_of, with_more};
+use crate::building::{assigned, called, cast_to, joined, leaf, no_nodes, place_of, with_node};
 use crate::cursor::Cursor;
 use crate::node::{Level, Node, Nodes};
 use crate::{BinaryOp, CType, Expr};
@@ -109,7 +109,7 @@ fn list(alloc: Global, cursor: &mut Cursor<'_>, below: u32) -> Result<Nodes, Ref
     for _turn in 0..cursor.left() {
         let one = expr(alloc, cursor, below, Level::Whole)?;
         let more = cursor.eat(b",");
-        all = with_more(all, one)?;
+        all = with_node(all, one)?;
         if !more {
             cursor.expect(alloc, b")")?;
             return Ok(all);

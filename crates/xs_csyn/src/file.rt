@@ -111,9 +111,9 @@ fn read_exactly(alloc: Global, src: &Bytes, file: FileOf) -> Result<CFile, Refus
 ///
 /// The first fault is told where there is one. Faults of tokens go first, in their order: 701 for a byte that may not stand
 /// where it does, 702 for a text or comment that does not end, on the line where it begins, 703 for an integer of more than
-/// 64 bits, 706 for another `#define`. Else it is 704 at the first token with no reading, or 705 where statements or an expression stand more than 64
-/// deep: at the first token of what stands too deep, or at the operator that would push its left operand too deep. At the
-/// early end of the text the line is the last that is not empty, or 1.
+/// 64 bits, 706 for another `#define`. Else it is 704 at the first token with no reading, or 705 where statements or an
+/// expression stand more than 64 deep: at the first token of what stands too deep, or at the operator that would push its
+/// left operand too deep. At the early end of the text the line is the last that is not empty, or 1.
 pub fn read_file(alloc: Global, src: &Bytes, file: FileOf) -> Result<CFile, Refuse>
     requires { length src.now < 2 ^ 32 - 1 }
 

@@ -12,4 +12,5 @@ mod tests;
 mod tree;
 
 pub use file::read_file;
+pub use stmts::if_of;
 pub use tree::{BinaryOp, CFile, CType, Expr, FileItem, PerlForm, Place, Stmt, XsFun};

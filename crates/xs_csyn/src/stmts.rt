@@ -1,6 +1,6 @@
 //! Statements and declarations, by recursive descent.
 
-ghost use Rattle.std.specs.Prelude.{◌≡◌, [], ◌∷◌, ◌++◌, IfOk, Ok};
+ghost use Rattle.std.specs.Prelude.{◌≡◌, IfOk, Ok};
 ghost use Rattle.xs_csyn.specs.Input.{Reads};
 ghost use Rattle.xs_csyn.specs.Stmts as spec;
 ghost use Rattle.xs_csyn.specs.Tree as t;
@@ -10,8 +10,8 @@ use crate::cursor::Cursor;
 use crate::exprs::{a_type, expr};
 use crate::node::{Level, Node};
 use crate::{Expr, PerlForm, Stmt};
-use std::alloc::{AllocError, Global};
-use xs_base::{Bytes, Refuse};
+use std::alloc::Global;
+use xs_base::{Bytes, Memory, Refuse, with_more};
 
 /// How deep statements may stand in each other, and how many nodes the longest way down an expression may have.
 pub const MAX_NESTING: u32 = 64;
@@ -97,19 +97,12 @@ fn declaration(alloc: Global, cursor: &mut Cursor<'_>) -> Result<Stmt, Refuse>
     Ok(Stmt::Declare(line, of_type, name))
 }
 
+/// `if (EXPR) STATEMENT` as a statement.
 #[tactic(auto, using(crate::proofs::Views::views))]
-fn if_of(alloc: Global, line: u32, test: Expr, then_do: Stmt) -> Result<Stmt, AllocError>
+pub fn if_of(alloc: Global, line: u32, test: Expr, then_do: Stmt) -> Result<Stmt, Memory>
     ensures { IfOk result (λ s. plain_stmt s ≡ t.If line (plain test) (plain_stmt then_do)) }
 {
     Ok(Stmt::If(line, test, Box::new(alloc, then_do)?))
-}
-
-fn with_more(all: Vec<Stmt>, one: Stmt) -> Result<Vec<Stmt>, AllocError>
-    ensures { IfOk result (λ v. plain_stmts v ≡ plain_stmts all ++ plain_stmt one ∷ []) }
-{
-    let mut all = all;
-    all.push(one)?;
-    Ok(all)
 }
 
 /// What stands directly in a block.

@@ -1,8 +1,7 @@
 -- A text has no more tokens than bytes.
-use Rattle.std.proofs.Common.{◌≡◌, ℕ, suc, ◌+◌, ◌≤◌, Bool, true, false, List, [], ◌∷◌, ◌++◌, length, map, Result, Ok, Err, refl, sym, ap, arith, length-append}
-use Rattle.std.proofs.lemmas.List.{length-map}
+use Rattle.std.proofs.Common.{◌≡◌, ℕ, ◌+◌, ◌≤◌, Bool, true, false, List, [], ◌∷◌, ◌++◌, length, Ok, arith, length-append}
 use Rattle.std.specs.Prelude.{Option, Some, None, if◌then◌else◌, ◌==◌, ◌&&◌}
-use Rattle.xs_base.specs.declared.fault.Fault.{Fault}
+use Rattle.xs_base.proofs.Collecting.{length-collect}
 use Rattle.xs_base.specs.declared.place.FileOf.{FileOf}
 use Rattle.xs_ctok.specs.declared.state.Mode.{Mode}
 use Rattle.xs_ctok.specs.declared.state.Mode.TheVariants as mode
@@ -10,7 +9,7 @@ use Rattle.xs_ctok.specs.declared.state.State.{State}
 use Rattle.xs_ctok.specs.declared.token.Token.{Token}
 use Rattle.xs_base.specs.Scanning.{is_blank, is_word_byte}
 use Rattle.xs_ctok.specs.Lexemes.{Lexeme, Word, Text, Sign, Bad, Moved, is_double, begin, begun, moved, behind, in_comment, freshly, faulted, directive_fault, step, step_at, last, last_at, run, start, lexemes_of}
-use Rattle.xs_ctok.specs.Tokens.{token_of, with_front, all_of, tokens_of}
+use Rattle.xs_ctok.specs.Tokens.{token_of, tokens_of}
 
 -- how many lexemes a state may still give
 abbrev pending_at : Mode → ℕ
@@ -92,15 +91,6 @@ lexemes_few bytes =
     let m = run start bytes in
     omega (arith, run_few start bytes, last_few m.state.mode m.state.line, length-append m.lexemes (last m.state))
 
-length-all_of : (rs : List (Result Token Fault)) (ts : List Token) → all_of rs ≡ Ok ts → length ts ≡ length rs
-length-all_of [] ts e = let same : [] ≡ ts = cc in ap length (sym same)
-length-all_of (Ok t ∷ rs) ts e = by (all_of rs) e (length-all_of rs)
-  where
-    by : (r : Result (List Token) Fault) → with_front (t ∷ []) r ≡ Ok ts → ((us : List Token) → r ≡ Ok us → length us ≡ length rs) → length ts ≡ suc (length rs)
-    by (Ok us) h ih = let same : t ∷ us ≡ ts = cc in omega (arith, ap length same, ih us refl)
-    by (Err f) h ih = absurd cc
-length-all_of (Err f ∷ rs) ts e = absurd cc
-
 pub tokens_few : (file : FileOf) (bytes : List ℕ) (all : List Token) → tokens_of file bytes ≡ Ok all → length all ≤ length bytes
 unfolding tokens_of
-tokens_few file bytes all e = omega (arith, length-all_of (map (token_of file) (lexemes_of bytes)) all e, length-map (lexemes_of bytes) (token_of file), lexemes_few bytes)
+tokens_few file bytes all e = omega (arith, length-collect (token_of file) (lexemes_of bytes) all e, lexemes_few bytes)

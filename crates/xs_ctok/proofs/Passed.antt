@@ -27,20 +27,17 @@ no_context_later : (o : Option (List ℕ)) → is_no_context false o ≡ true �
 no_context_later None h = absurd cc
 no_context_later (Some rest) h = over_behind_later (behind_word (codes "PERL_NO_GET_CONTEXT") (behind_blanks rest)) h
 
--- the fault of a define, by whether it is passed over
-abbrev fault_unless : Bool → Option ℕ
-fault_unless t = if t then None else Some 706
+-- the fault of a directive, by whether it is passed over
+abbrev fault_behind : Bool → Option ℕ → Option ℕ
+fault_behind t o = if t then None else o
 
-is_unless : (t : Bool) → fault_unless t ≡ None → t ≡ true
-is_unless true h = refl
-is_unless false h = absurd cc
+is_passed : (t : Bool) (code : ℕ) → fault_behind t (Some code) ≡ None → t ≡ true
+is_passed true code h = refl
+is_passed false code h = absurd cc
 
 define_later : (o : Option (List ℕ)) → define_fault false o ≡ None → define_fault true o ≡ None
 define_later None h = absurd cc
-define_later (Some rest) h = ap fault_unless (no_context_later (behind_blank rest) (is_unless (is_no_context false (behind_blank rest)) h))
-
-abbrev fault_behind : Bool → Option ℕ → Option ℕ
-fault_behind t o = if t then None else o
+define_later (Some rest) h = ap (λ t. fault_behind t (Some 706)) (no_context_later (behind_blank rest) (is_passed (is_no_context false (behind_blank rest)) 706 h))
 
 either_later : (t : Bool) (o : Option (List ℕ)) → fault_behind t (define_fault false o) ≡ None → fault_behind t (define_fault true o) ≡ None
 either_later true o h = refl

@@ -1,14 +1,14 @@
 -- The moves over a text in pieces are those over the text.
-use Rattle.std.proofs.Common.{◌≡◌, ℕ, ◌+◌, ◌&&◌, ◌||◌, ◌==◌, Bool, true, false, not, List, [], ◌∷◌, ◌++◌, refl, sym, ap, ◌∙◌, append_assoc, append-nil, subst}
+use Rattle.std.proofs.Common.{◌≡◌, ℕ, ◌&&◌, ◌||◌, ◌==◌, Bool, true, false, not, List, [], ◌∷◌, ◌++◌, refl, sym, ap, ◌∙◌, append_assoc, append-nil, subst}
 use Rattle.std.proofs.lemmas.Bool.{and_left, and_parts, and_right, both_ways, cond-false, cond-true, eqb-true, false_from_ne_true, not-true, or_from, or_parts}
-use Rattle.std.proofs.lemmas.List.Elements.{All-weaker}
-use Rattle.std.proofs.lemmas.List.Sums.{AllPass-from_list_all, list_all-from_AllPass}
 use Rattle.std.specs.Prelude.{Option, Some}
 use Rattle.std.specs.List.{list_all}
 use Rattle.xs_ctok.specs.declared.state.Mode.{Mode}
 use Rattle.xs_ctok.specs.declared.state.Mode.TheVariants as mode
 use Rattle.xs_ctok.specs.declared.state.State.{State}
 use Rattle.xs_base.specs.Scanning.{is_blank, is_word_byte}
+use Rattle.xs_base.proofs.AllPass.{all-weaker}
+use Rattle.xs_base.proofs.WordBytes.{not_this, word_not_blank}
 use Rattle.xs_ctok.specs.Lexemes.{Lexeme, Sign, Moved, is_double, is_doubled, goes_before_equals, begin, begun, moved, at_line, behind, freshly, step, step_at, run}
 use Rattle.xs_ctok.specs.Pieces.{Piece, Plain, Name, Bare, Blank, Line, spelled, IsName, IsBare, IsBlank, IsPassed, is_bare_byte, ArePieces, named, named_at, bared, bared_at, blanked, blanked_at, lined, lined_at, run_pieces}
 use Rattle.xs_ctok.proofs.Passed.{blank_stays_fresh, passed_line_runs}
@@ -37,24 +37,17 @@ from_between line b bs h =
     let P : Option State → Type 0 = λ o. behind (begun line o).lexemes (run (begun line o).state bs) ≡ moved line (mode.Word (b ∷ bs)) in
     subst P (sym (begins_word line b p.0)) (in_word line (b ∷ []) bs p.1)
 
--- a byte of a word is not this one
-not_this : (c : ℕ) → is_word_byte c ≡ false → (b : ℕ) → is_word_byte b ≡ true → (b == c) ≡ false
-not_this c other b h = false_from_ne_true (b == c) (λ e. both_ways (is_word_byte b) (ap is_word_byte (eqb-true b c e) ∙ other) h)
-
-word_is_no_blank : (b : ℕ) → is_word_byte b ≡ true → is_blank b ≡ false
-word_is_no_blank b h = or_from (b == 32) (b == 9) (not_this 32 refl b h) (not_this 9 refl b h)
-
 from_fresh : (line b : ℕ) (bs : List ℕ) → list_all is_word_byte (b ∷ bs) ≡ true → run (at_line line mode.Fresh) (b ∷ bs) ≡ moved line (mode.Word (b ∷ bs))
 from_fresh line b bs h =
     let p = and_parts (is_word_byte b) (list_all is_word_byte bs) h in
-    let step_is : freshly line b ≡ begun line (begin line b) = cond-false (is_blank b) _ _ (word_is_no_blank b p.0) ∙ cond-false (b == 35) _ _ (not_this 35 refl b p.0) in
+    let step_is : freshly line b ≡ begun line (begin line b) = cond-false (is_blank b) _ _ (word_not_blank b p.0) ∙ cond-false (b == 35) _ _ (not_this is_word_byte 35 refl b p.0) in
     ap (λ (m : Moved). behind m.lexemes (run m.state bs)) step_is ∙ from_between line b bs h
 
 -- and is not doubled
 not_doubled : (b : ℕ) → is_word_byte b ≡ true → is_doubled b ≡ false
 not_doubled b h =
-    or_from (b == 38) _ (not_this 38 refl b h) (or_from (b == 43) _ (not_this 43 refl b h) (or_from (b == 45) _ (not_this 45 refl b h)
-    (or_from (b == 60) _ (not_this 60 refl b h) (or_from (b == 62) _ (not_this 62 refl b h) (not_this 124 refl b h)))))
+    or_from (b == 38) _ (not_this is_word_byte 38 refl b h) (or_from (b == 43) _ (not_this is_word_byte 43 refl b h) (or_from (b == 45) _ (not_this is_word_byte 45 refl b h)
+    (or_from (b == 60) _ (not_this is_word_byte 60 refl b h) (or_from (b == 62) _ (not_this is_word_byte 62 refl b h) (not_this is_word_byte 124 refl b h)))))
 
 not_same_doubled : (a b : ℕ) (t : Bool) → (a == b) ≡ t → is_word_byte b ≡ true → (t && is_doubled a) ≡ false
 not_same_doubled a b true e h = ap is_doubled (eqb-true a b e) ∙ not_doubled b h
@@ -63,11 +56,11 @@ not_same_doubled a b false e h = refl
 -- It makes no punctuator longer.
 no_double : (a b : ℕ) → is_word_byte b ≡ true → is_double a b ≡ false
 no_double a b h =
-    or_from (b == 61 && goes_before_equals a) _ (and_left (b == 61) (goes_before_equals a) (not_this 61 refl b h))
-    (or_from (a == b && is_doubled a) _ (not_same_doubled a b (a == b) refl h) (and_right (a == 45) (b == 62) (not_this 62 refl b h)))
+    or_from (b == 61 && goes_before_equals a) _ (and_left (b == 61) (goes_before_equals a) (not_this is_word_byte 61 refl b h))
+    (or_from (a == b && is_doubled a) _ (not_same_doubled a b (a == b) refl h) (and_right (a == 45) (b == 62) (not_this is_word_byte 62 refl b h)))
 
 no_comment : (a b : ℕ) → is_word_byte b ≡ true → (a == 47 && b == 42) ≡ false
-no_comment a b h = and_right (a == 47) (b == 42) (not_this 42 refl b h)
+no_comment a b h = and_right (a == 47) (b == 42) (not_this is_word_byte 42 refl b h)
 
 from_mark : (a line b : ℕ) (bs : List ℕ) → list_all is_word_byte (b ∷ bs) ≡ true
     → run (at_line line (mode.Mark a)) (b ∷ bs) ≡ behind (Sign line (a ∷ []) ∷ []) (moved line (mode.Word (b ∷ bs)))
@@ -90,11 +83,12 @@ in_text line text (b ∷ bs) h =
     ap (λ (m : Moved). behind m.lexemes (run m.state bs)) step_is
     ∙ in_text line (text ++ b ∷ []) bs p.1 ∙ ap (λ t. moved line (mode.Text t)) (append_assoc text (b ∷ []) bs)
 
-word_is_bare : (b : ℕ) → is_word_byte b ≡ true → is_bare_byte b ≡ true
-word_is_bare b h = ap not (or_from (b == 10) _ (not_this 10 refl b h) (or_from (b == 34) _ (not_this 34 refl b h) (not_this 92 refl b h)))
+-- A test that no line end, quote or backslash passes leaves bytes that stand for themselves.
+pub bare_if : (p : ℕ → Bool) → p 10 ≡ false → p 34 ≡ false → p 92 ≡ false → (b : ℕ) → p b ≡ true → is_bare_byte b ≡ true
+bare_if p end quote backslash b h = ap not (or_from (b == 10) _ (not_this p 10 end b h) (or_from (b == 34) _ (not_this p 34 quote b h) (not_this p 92 backslash b h)))
 
 name_is_bare : (name : List ℕ) → list_all is_word_byte name ≡ true → list_all is_bare_byte name ≡ true
-name_is_bare name h = list_all-from_AllPass is_bare_byte name (All-weaker (λ b. is_word_byte b ≡ true) (λ b. is_bare_byte b ≡ true) word_is_bare name (AllPass-from_list_all is_word_byte name h))
+name_is_bare name h = all-weaker is_word_byte is_bare_byte (bare_if is_word_byte refl refl refl) name h
 
 pub run_name : (m : Mode) (line : ℕ) (name : List ℕ) → IsName name → run (at_line line m) name ≡ named_at m line name
 run_name mode.Fresh line name h =
@@ -117,7 +111,7 @@ run_bare m line text h = refl
 -- ---- blanks
 
 blank_is_no_word : (b : ℕ) → is_blank b ≡ true → is_word_byte b ≡ false
-blank_is_no_word b h = false_from_ne_true (is_word_byte b) (λ e. both_ways (is_blank b) (word_is_no_blank b e) h)
+blank_is_no_word b h = false_from_ne_true (is_word_byte b) (λ e. both_ways (is_blank b) (word_not_blank b e) h)
 
 stays_between : (line b : ℕ) → is_blank b ≡ true → begin line b ≡ Some (at_line line mode.Between)
 unfolding begin

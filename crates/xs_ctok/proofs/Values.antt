@@ -4,17 +4,16 @@ use Rattle.std.specs.Prelude.{Some, nat_lt}
 use Rattle.std.specs.Fmt.{decimal}
 use Rattle.std.specs.List.{list_all}
 use Rattle.std.specs.Str.{bytes_eq}
-use Rattle.std.proofs.lemmas.Bool.{and_from, and_parts, both_ways, cond-false, cond-true, false_from_ne_true, lt-ltb, or_from, or_right}
+use Rattle.std.proofs.lemmas.Bool.{and_parts, both_ways, cond-false, cond-true, false_from_ne_true, lt-ltb, or_from, or_right}
 use Rattle.std.proofs.lemmas.Bool.Decides.{nat_tests}
 use Rattle.std.proofs.lemmas.Fmt.{decimal_by_steps, decimal_digit, first_decimal}
-use Rattle.std.proofs.lemmas.List.Elements.{All-weaker}
-use Rattle.std.proofs.lemmas.List.Folds.{list_all-append}
-use Rattle.std.proofs.lemmas.List.Sums.{AllPass-from_list_all, fold-append, list_all-from_AllPass}
+use Rattle.std.proofs.lemmas.List.Sums.{fold-append}
 use Rattle.std.proofs.lemmas.Slice.Eq.{bytes_eq-Decides}
+use Rattle.xs_base.proofs.AllPass.{all-append, all-weaker}
 use Rattle.xs_ctok.specs.declared.token.Sort.TheVariants as sort
-use Rattle.xs_base.specs.Scanning.{begins_word, is_digit, is_word_byte, value_of_digits}
+use Rattle.xs_base.specs.Scanning.{has_leading_zero, is_decimal, begins_word, is_digit, is_word_byte, value_of_digits}
 use Rattle.xs_ctok.specs.Pieces.{IsName}
-use Rattle.xs_ctok.specs.Words.{has_leading_zero, is_decimal, sort_value, sort_word, is_key_word}
+use Rattle.xs_ctok.specs.Words.{sort_value, sort_word, is_key_word}
 use Rattle.xs_base.specs.Readers.{head_is}
 use Rattle.xs_base.specs.Names.{is_among}
 
@@ -36,7 +35,7 @@ decimal_digits : (n : ℕ) → n < 2 ^ 64 → AreDigits n (decimal n)
 decimal_digits = decimal_by_steps AreDigits
     (λ n h. record { all = ap (λ b. b && true) (digit_is n h); value = omega arith; some = digit_is n h })
     (λ n ds h d. record {
-      all = list_all-append is_digit ds ((48 + n % 10) ∷ []) ∙ and_from (list_all is_digit ds) _ d.all (ap (λ b. b && true) (digit_is (n % 10) (omega arith)));
+      all = all-append is_digit ds ((48 + n % 10) ∷ []) d.all (ap (λ b. b && true) (digit_is (n % 10) (omega arith)));
       value = fold-append (λ m b. 10 * m + (b - 48)) 0 ds ((48 + n % 10) ∷ []) ∙ omega (arith, d.value);
       some = head_is-append is_digit ds ((48 + n % 10) ∷ []) d.some;
     })
@@ -69,7 +68,7 @@ digit_in_word : (b : ℕ) → is_digit b ≡ true → is_word_byte b ≡ true
 digit_in_word b h = or_right (begins_word b) (is_digit b) h
 
 digits_in_word : (ds : List ℕ) → list_all is_digit ds ≡ true → list_all is_word_byte ds ≡ true
-digits_in_word ds h = list_all-from_AllPass is_word_byte ds (All-weaker (λ b. is_digit b ≡ true) (λ b. is_word_byte b ≡ true) digit_in_word ds (AllPass-from_list_all is_digit ds h))
+digits_in_word ds h = all-weaker is_digit is_word_byte digit_in_word ds h
 
 as_name : (ds : List ℕ) → list_all is_digit ds ≡ true → head_is is_digit ds ≡ true → IsName ds
 as_name [] h b = absurd cc
@@ -77,16 +76,3 @@ as_name (d ∷ ds) h b = record { head = d; tail = ds; is = refl; bytes = digits
 
 pub is_name_decimal : (n : ℕ) → n < 2 ^ 64 → IsName (decimal n)
 is_name_decimal n h = let d = decimal_digits n h in as_name (decimal n) d.all d.some
-
--- ---- lists of words
-
-is_among-true : (words : List (List ℕ)) (a b : List ℕ) → bytes_eq a b ≡ true → is_among words b ≡ is_among words a
-is_among-true words a b e = ap (is_among words) (sym ((bytes_eq-Decides a b).0 e))
-
--- A word that is not in a list is in no list whose words are all in that one.
-pub is_among-fewer : (all fewer : List (List ℕ)) (word : List ℕ) → list_all (is_among all) fewer ≡ true → is_among all word ≡ false → is_among fewer word ≡ false
-is_among-fewer all [] word h none = refl
-is_among-fewer all (w ∷ ws) word h none =
-    let p = and_parts (is_among all w) (list_all (is_among all) ws) h in
-    let other : bytes_eq w word ≡ false = false_from_ne_true (bytes_eq w word) (λ same. both_ways (is_among all word) none (is_among-true all w word same ∙ p.0)) in
-    or_from (bytes_eq w word) (is_among ws word) other (is_among-fewer all ws word p.1 none)

@@ -3,7 +3,10 @@ use Rattle.std.specs.List.{list_all}
 use Rattle.std.specs.Option.{is_none, is_some}
 use Rattle.std.specs.Prelude.{ℕ, ◌+◌, Bool, true, false, not, ◌==◌, ◌&&◌, ◌||◌, nat_le, List, [], ◌∷◌, ◌++◌, codes, if◌then◌else◌, Option, Some, None, option_and_then}
 use Rattle.xs_base.specs.Scanning.{after_word, is_blank, is_word_byte}
+use Rattle.xs_base.specs.Readers.{head_is}
+use Rattle.xs_base.specs.Runs as runs
 use Rattle.xs_base.specs.Runs.{behind_blanks}
+use Rattle.xs_base.specs.declared.runs.ByteClass.TheVariants as class
 use Rattle.xs_ctok.specs.declared.state.Mode.{Mode}
 use Rattle.xs_ctok.specs.declared.state.Mode.TheVariants as mode
 use Rattle.xs_ctok.specs.declared.state.State.{State}
@@ -44,8 +47,7 @@ behind_blank (b ∷ bs) = if is_blank b then Some bs else None
 
 -- the text, where it goes on with no byte of a word
 abbrev pub behind_end : List ℕ → Option (List ℕ)
-behind_end [] = Some []
-behind_end (b ∷ bs) = if is_word_byte b then None else Some (b ∷ bs)
+behind_end text = if head_is (runs.belongs class.Word) text then None else Some text
 
 -- what stands behind a word that is the text's whole first word
 abbrev pub behind_word : List ℕ → List ℕ → Option (List ℕ)

@@ -5,26 +5,27 @@ use Rattle.xs_ctok.specs.declared.token.Sort.{Sort}
 use Rattle.xs_ctok.specs.declared.token.Sort.TheVariants as sort
 use Rattle.xs_base.specs.Names.{is_among}
 use Rattle.xs_base.specs.Readers.{head_is}
-use Rattle.xs_base.specs.Scanning.{is_digit, value_of_digits}
+use Rattle.xs_base.specs.Scanning.{is_decimal, is_digit, value_of_digits}
 
 -- the words by which types are told
 abbrev pub type_words : List (List ℕ)
 type_words =
     codes "int" ∷ codes "IV" ∷ codes "SV" ∷ []
 
--- Words of C and of perl that no reading here takes: other types, other statements, storage classes and perl's declarations.
-abbrev pub words_not_read : List (List ℕ)
-words_not_read =
-    codes "char" ∷ codes "signed" ∷ codes "unsigned" ∷ codes "short" ∷ codes "long" ∷ codes "I8" ∷ codes "U8" ∷ codes "I16" ∷ codes "U16"
+-- Words of C and of perl that name nothing: the words of glue functions and of tests, and those that no reading here takes, which are other
+-- types, other statements, storage classes and perl's declarations.
+abbrev pub no_name_words : List (List ℕ)
+no_name_words =
+    codes "XS" ∷ codes "if" ∷ codes "char" ∷ codes "signed" ∷ codes "unsigned" ∷ codes "short" ∷ codes "long" ∷ codes "I8" ∷ codes "U8" ∷ codes "I16" ∷ codes "U16"
     ∷ codes "I32" ∷ codes "U32" ∷ codes "SSize_t" ∷ codes "ssize_t" ∷ codes "SysRet" ∷ codes "UV" ∷ codes "STRLEN" ∷ codes "size_t"
     ∷ codes "bool" ∷ codes "void" ∷ codes "SVREF" ∷ codes "AV" ∷ codes "HV" ∷ codes "typedef" ∷ codes "struct" ∷ codes "else" ∷ codes "while"
     ∷ codes "do" ∷ codes "for" ∷ codes "switch" ∷ codes "break" ∷ codes "continue" ∷ codes "return" ∷ codes "case" ∷ codes "default"
     ∷ codes "INT2PTR" ∷ codes "const" ∷ codes "static" ∷ codes "STATIC" ∷ codes "inline" ∷ codes "STMT_START" ∷ codes "STMT_END"
     ∷ codes "pTHX" ∷ codes "pTHX_" ∷ codes "aTHX" ∷ codes "aTHX_" ∷ codes "dTHX" ∷ codes "dVAR" ∷ codes "dNOOP" ∷ []
 
--- words that are no name
-abbrev pub no_names : List (List ℕ)
-no_names = codes "XS" ∷ codes "if" ∷ type_words ++ words_not_read
+-- a word that is no name
+abbrev pub is_no_name : List ℕ → Bool
+is_no_name word = is_among type_words word || is_among no_name_words word
 
 -- Words to which the XS interface gives a meaning (perlxs, perlapi), so that no variable has such a name.
 abbrev pub interface_words : List (List ℕ)
@@ -43,14 +44,7 @@ result_words = codes "RETVAL" ∷ codes "RETVALSV" ∷ []
 
 -- a word to which the grammar, the XS interface or the glue gives a meaning
 abbrev pub is_key_word : List ℕ → Bool
-is_key_word word = is_among no_names word || (is_among interface_words word || is_among result_words word)
-
-abbrev pub has_leading_zero : List ℕ → Bool
-has_leading_zero (a ∷ b ∷ bs) = a == 48
-has_leading_zero _ = false
-
-abbrev pub is_decimal : List ℕ → Bool
-is_decimal word = list_all is_digit word && not (has_leading_zero word)
+is_key_word word = is_no_name word || (is_among interface_words word || is_among result_words word)
 
 abbrev pub sort_value : ℕ → Option Sort
 sort_value value = if nat_lt value (2 ^ 64) then Some (sort.Numeral value) else None

@@ -4,7 +4,7 @@ ghost use Rattle.std.specs.List.{list_all};
 ghost use Rattle.std.specs.Prelude.{◌≡◌, ◌==◌, MatchOption, None, Some, not};
 ghost use Rattle.xs_ctok.specs.Lexemes as spec;
 
-use xs_base::{after_word, behind_blanks, is_blank, is_word_byte};
+use xs_base::{ByteClass, after_word, begins_with_class, behind_blanks, is_blank};
 
 fn behind_blank(text: &[u8]) -> Option<&[u8]>
     ensures { MatchOption result (spec.behind_blank text.now ≡ None) (λ rest. spec.behind_blank text.now ≡ Some rest.now) }
@@ -18,15 +18,10 @@ fn behind_blank(text: &[u8]) -> Option<&[u8]>
 fn behind_end(text: &[u8]) -> Option<&[u8]>
     ensures { MatchOption result (spec.behind_end text.now ≡ None) (λ rest. spec.behind_end text.now ≡ Some rest.now) }
 {
-    match text {
-        [first, ..] => {
-            if is_word_byte(*first) {
-                None
-            } else {
-                Some(text)
-            }
-        }
-        [] => Some(text),
+    if begins_with_class(ByteClass::Word, text) {
+        None
+    } else {
+        Some(text)
     }
 }
 

@@ -1,7 +1,7 @@
 //! C text is cut into tokens, a byte at a time.
 
-ghost use Rattle.std.specs.Prelude.{◌≡◌, ◌+◌, ◌-◌, ◌^◌, ◌<◌, ◌≤◌, IfOk, List, false, length, true};
-ghost use Rattle.xs_base.specs.Reading.{Gives};
+ghost use Rattle.std.specs.Prelude.{◌≡◌, ◌+◌, ◌-◌, ◌^◌, ◌<◌, ◌≤◌, IfOk, List, [], false, length, true};
+ghost use Rattle.xs_base.specs.Reading.{Gives, fault_in};
 ghost use Rattle.xs_ctok.specs.Lexemes as spec;
 ghost use Rattle.xs_ctok.specs.Tokens as tokens;
 ghost use Rattle.xs_ctok.specs.Tokens.{Adds, Begins, Moves};
@@ -56,14 +56,9 @@ fn is_double(a: u8, b: u8) -> bool
 }
 
 fn fault(alloc: Global, file: FileOf, code: u16, line: u32) -> Refuse
-    ensures { result ≡ refuse.Fault (tokens.fault_at file code line) }
+    ensures { result ≡ refuse.Fault (fault_in file line code []) }
 {
-    Refuse::Fault(Fault {
-        file,
-        line,
-        code,
-        word: Bytes::new(alloc),
-    })
+    Refuse::Fault(Fault::bare(alloc, file, line, code))
 }
 
 fn word_token(alloc: Global, file: FileOf, line: u32, text: Bytes) -> Result<Token, Refuse>
@@ -132,26 +127,30 @@ fn step_fresh(alloc: Global, file: FileOf, line: u32, b: u8) -> Result<State, Re
     }
 }
 
+/// The end of a directive, behind which a byte 10 or the end of the text follows.
+fn end_directive(
+    alloc: Global,
+    file: FileOf,
+    line: u32,
+    followed: bool,
+    bytes: &[u8],
+) -> Result<(), Refuse>
+    ensures { (out : List Token) → Adds file (spec.faulted line (spec.directive_fault followed bytes.now)) out result out }
+{
+    match directive_fault(followed, bytes) {
+        None => Ok(()),
+        Some(code) => Err(fault(alloc, file, code, line)),
+    }
+}
+
 /// The state behind the line end of a directive.
 fn next_line(alloc: Global, file: FileOf, line: u32, bytes: &[u8]) -> Result<State, Refuse>
     requires { line + 1 < 2 ^ 32 }
     ensures read { (out : List Token) → Moves file (spec.behind (spec.faulted line (spec.directive_fault true bytes.now)) (spec.moved (line + 1) mode.Fresh)) out result out }
     ensures line { IfOk result (λ s. s.line ≤ line + 1) }
 {
-    match directive_fault(true, bytes) {
-        None => Ok(at_line(line + 1, Mode::Fresh)),
-        Some(code) => Err(fault(alloc, file, code, line)),
-    }
-}
-
-/// The end of a text that ends within a directive.
-fn end_directive(alloc: Global, file: FileOf, line: u32, bytes: &[u8]) -> Result<(), Refuse>
-    ensures { (out : List Token) → Adds file (spec.faulted line (spec.directive_fault false bytes.now)) out result out }
-{
-    match directive_fault(false, bytes) {
-        None => Ok(()),
-        Some(code) => Err(fault(alloc, file, code, line)),
-    }
+    end_directive(alloc, file, line, true, bytes)?;
+    Ok(at_line(line + 1, Mode::Fresh))
 }
 
 fn step_directive(
@@ -311,7 +310,7 @@ fn end(alloc: Global, out: &mut Items<Token>, file: FileOf, state: State) -> Res
     let State { mode, line } = state;
     match mode {
         Mode::Fresh | Mode::Between => Ok(()),
-        Mode::Directive(bytes) => end_directive(alloc, file, line, bytes.as_slice()),
+        Mode::Directive(bytes) => end_directive(alloc, file, line, false, bytes.as_slice()),
         Mode::Word(word) => {
             out.push(word_token(alloc, file, line, word)?)?;
             Ok(())

@@ -24,16 +24,16 @@ fn told(rt: &impl Abort, alloc: Global, text: &str) -> Result<Bytes, Memory> {
     match tokens(alloc, text.as_bytes(), FileOf::Text) {
         Ok(all) => {
             for token in all.as_slice() {
-                out.append(token.line.to_string(alloc)?.as_bytes())?;
+                out.append_number(alloc, token.line as u64)?;
                 out.append(letter(token.sort).as_bytes())?;
                 out.append(token.text.as_slice())?;
                 out.append(b" ")?;
             }
         }
         Err(Refuse::Fault(fault)) => {
-            out.append(fault.code.to_string(alloc)?.as_bytes())?;
+            out.append_number(alloc, fault.code as u64)?;
             out.append(b" at ")?;
-            out.append(fault.line.to_string(alloc)?.as_bytes())?;
+            out.append_number(alloc, fault.line as u64)?;
         }
         Err(Refuse::Memory) => return Err(Memory),
     }

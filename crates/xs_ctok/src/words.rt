@@ -6,18 +6,15 @@ ghost use Rattle.xs_base.specs.Scanning.{value_of_digits};
 ghost use Rattle.xs_ctok.specs.Words as spec;
 
 use crate::token::Sort;
-use xs_base::{ByteClass, are_all, digits_value, is_among, is_digit};
+use xs_base::{digits_value, is_among, is_decimal, is_digit};
 
 /// The words by which types are told.
 const TYPE_WORDS: [&str; 3] = ["int", "IV", "SV"];
 
-/// Words that are no name: the words of C that this grammar has in quotes, type words, and words that no reading takes.
-const NO_NAMES: [&str; 53] = [
+/// Further words that are no name: the words of C that this grammar has in quotes, and words that no reading takes.
+const NO_NAMES: [&str; 50] = [
     "XS",
     "if",
-    "int",
-    "IV",
-    "SV",
     "char",
     "signed",
     "unsigned",
@@ -99,16 +96,18 @@ const INTERFACE_WORDS: [&str; 24] = [
 /// The variables of the glue's results.
 const RESULT_WORDS: [&str; 2] = ["RETVAL", "RETVALSV"];
 
+/// Whether a word tells a type.
 pub fn is_type_word(word: &[u8]) -> bool
     ensures { result ≡ names.is_among spec.type_words word.now }
 {
     is_among(&TYPE_WORDS, word)
 }
 
+/// Whether a word is no name of a variable or a function, whatever stands around it.
 pub fn is_no_name(word: &[u8]) -> bool
-    ensures { result ≡ names.is_among spec.no_names word.now }
+    ensures { result ≡ spec.is_no_name word.now }
 {
-    is_among(&NO_NAMES, word)
+    is_type_word(word) || is_among(&NO_NAMES, word)
 }
 
 /// Whether the XS interface gives a meaning to a word (perlxs, perlapi).
@@ -119,26 +118,12 @@ pub fn is_interface_word(word: &[u8]) -> bool
     is_among(&INTERFACE_WORDS, word)
 }
 
+/// Whether the grammar, the XS interface or the glue gives a meaning to a word.
 #[tactic(auto, unfolding(crate::specs::Words::is_interface_word))]
-fn is_key(word: &[u8]) -> bool
+pub fn is_key_word(word: &[u8]) -> bool
     ensures { result ≡ spec.is_key_word word.now }
 {
     is_no_name(word) || is_interface_word(word) || is_among(&RESULT_WORDS, word)
-}
-
-fn has_leading_zero(word: &[u8]) -> bool
-    ensures { result ≡ spec.has_leading_zero word.now }
-{
-    match word {
-        [first, _, ..] => *first == b'0',
-        _ => false,
-    }
-}
-
-fn is_decimal(word: &[u8]) -> bool
-    ensures { result ≡ spec.is_decimal word.now }
-{
-    are_all(ByteClass::Digit, word) && !has_leading_zero(word)
 }
 
 fn value_sort(word: &[u8]) -> Option<Sort>
@@ -164,7 +149,7 @@ pub fn sort_word(word: &[u8]) -> Option<Sort>
             }
         }
         _ => {
-            if is_key(word) {
+            if is_key_word(word) {
                 Some(Sort::Key)
             } else {
                 Some(Sort::Name)

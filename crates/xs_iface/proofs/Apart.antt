@@ -1,27 +1,19 @@
 -- Names of which none stands twice.
-use Rattle.std.proofs.Common.{◌≡◌, ℕ, ◌+◌, ◌≤◌, ◌||◌, Bool, true, false, List, [], ◌∷◌, ◌++◌, length, map, Option, None, Some, refl, sym, ◌∙◌, subst, arith}
-use Rattle.std.proofs.lemmas.Bool.{or_from, or_parts}
+use Rattle.std.proofs.Common.{◌≡◌, ℕ, ◌+◌, ◌≤◌, ◌||◌, false, List, [], ◌∷◌, ◌++◌, length, map, None, Some, refl, sym, ◌∙◌, subst, arith}
+use Rattle.std.proofs.lemmas.Bool.{leb-false, or_from, or_parts}
 use Rattle.std.proofs.lemmas.Bool.Decides.{nat_tests}
 use Rattle.std.proofs.lemmas.List.Folds.{list_any-append}
 use Rattle.std.proofs.lemmas.List.{map-append, length-append}
 use Rattle.std.specs.List.{list_any}
-use Rattle.std.specs.Option.{option_or}
 use Rattle.std.specs.Prelude.{nat_le, if◌then◌else◌}
 use Rattle.std.specs.Str.{bytes_eq}
-use Rattle.xs_base.specs.declared.fault.Fault.{Fault}
 use Rattle.xs_base.specs.Names.{is_among}
+use Rattle.xs_base.proofs.Choices.{none_of_both, none_unless}
 use Rattle.xs_iface.specs.Iface.{first_fault, name_fault, param_fault}
 use Rattle.xs_sections.specs.Faults.{fault_at}
-use Rattle.xs_iface.specs.SumForm.{All, Differ}
+use Rattle.std.specs.List.{AllByRecursion as All}
+use Rattle.xs_iface.specs.SumForm.{Differ}
 use Rattle.xs_iface.specs.declared.xsub.Xsub.{Xsub}
-
-no_first : (a b : Option Fault) → option_or a b ≡ None → (a ≡ None) × (b ≡ None)
-no_first None b h = (refl, h)
-no_first (Some f) b h = absurd cc
-
-unless : (t : Bool) (f : Fault) (o : Option Fault) → (if t then Some f else o) ≡ None → (t ≡ false) × (o ≡ None)
-unless true f o h = absurd cc
-unless false f o h = (refl, h)
 
 -- each name is another than those before it in the list, and than these
 abbrev pub Apart : List (List ℕ) → List (List ℕ) → Type 0
@@ -59,21 +51,18 @@ are_apart before (n ∷ ns) a =
 pub params_apart : (line : ℕ) (before names : List (List ℕ)) → first_fault (param_fault line) before names ≡ None → Apart before names
 params_apart line before [] h = tt
 params_apart line before (n ∷ ns) h =
-    let g = no_first (param_fault line before n) (first_fault (param_fault line) (before ++ n ∷ []) ns) h in
-    let f = unless (is_among before n) (fault_at line 303 n) (if nat_le 64 (length before) then Some (fault_at line 304 []) else None) g.0 in
+    let g = none_of_both (param_fault line before n) (first_fault (param_fault line) (before ++ n ∷ []) ns) h in
+    let f = none_unless (is_among before n) (fault_at line 303 n) (if nat_le 64 (length before) then Some (fault_at line 304 []) else None) g.0 in
     (f.0, params_apart line (before ++ n ∷ []) ns g.1)
-
-below : (a b : ℕ) → nat_le a b ≡ false → b + 1 ≤ a
-below a b h = grind (arith, nat_tests)
 
 pub few_names : (line : ℕ) (before names : List (List ℕ)) → first_fault (param_fault line) before names ≡ None → length before ≤ 64 → length before + length names ≤ 64
 few_names line before [] h few = omega (arith, few)
 few_names line before (n ∷ ns) h few =
-    let g = no_first (param_fault line before n) (first_fault (param_fault line) (before ++ n ∷ []) ns) h in
-    let f = unless (is_among before n) (fault_at line 303 n) (if nat_le 64 (length before) then Some (fault_at line 304 []) else None) g.0 in
-    let m = unless (nat_le 64 (length before)) (fault_at line 304 []) None f.1 in
+    let g = none_of_both (param_fault line before n) (first_fault (param_fault line) (before ++ n ∷ []) ns) h in
+    let f = none_unless (is_among before n) (fault_at line 303 n) (if nat_le 64 (length before) then Some (fault_at line 304 []) else None) g.0 in
+    let m = none_unless (nat_le 64 (length before)) (fault_at line 304 []) None f.1 in
     let more : length (before ++ n ∷ []) ≡ length before + 1 = length-append before (n ∷ []) in
-    let room = below 64 (length before) m.0 in
+    let room = leb-false 64 (length before) m.0 in
     let r = few_names line (before ++ n ∷ []) ns g.1 (omega (arith, more, room)) in
     omega (arith, more, r)
 
@@ -87,8 +76,8 @@ pub names_apart : (before xs : List Xsub) → first_fault name_fault before xs �
     → Apart (map (λ (x : Xsub). x.full) before) (map (λ (x : Xsub). x.full) xs) × Apart (map (λ (x : Xsub). x.glue) before) (map (λ (x : Xsub). x.glue) xs)
 names_apart before [] h = (tt, tt)
 names_apart before (x ∷ xs) h =
-    let g = no_first (name_fault before x) (first_fault name_fault (before ++ x ∷ []) xs) h in
-    let f = unless (is_among (map (λ (e : Xsub). e.full) before) x.full || is_among (map (λ (e : Xsub). e.glue) before) x.glue) (fault_at x.line 407 x.full) None g.0 in
+    let g = none_of_both (name_fault before x) (first_fault name_fault (before ++ x ∷ []) xs) h in
+    let f = none_unless (is_among (map (λ (e : Xsub). e.full) before) x.full || is_among (map (λ (e : Xsub). e.glue) before) x.glue) (fault_at x.line 407 x.full) None g.0 in
     let n = or_parts (is_among (map (λ (e : Xsub). e.full) before) x.full) (is_among (map (λ (e : Xsub). e.glue) before) x.glue) f.0 in
     let r = names_apart (before ++ x ∷ []) xs g.1 in
     let P : List (List ℕ) → Type 0 = λ ns. Apart ns (map (λ (e : Xsub). e.full) xs) in

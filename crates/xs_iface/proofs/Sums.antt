@@ -1,14 +1,14 @@
 -- What holds of the module of each XS file whose XSUBs are sums.
-use Rattle.std.proofs.Common.{◌≡◌, ℕ, zero, suc, ◌≤◌, ◌<◌, ◌&&◌, ◌||◌, Bool, true, false, not, List, [], ◌∷◌, ◌++◌, codes, length, map, Option, None, Some, Result, Ok, Err, refl, sym, ap, subst, arith}
-use Rattle.std.proofs.lemmas.Bool.{and_parts}
+use Rattle.std.proofs.Common.{◌≡◌, ℕ, ◌≤◌, ◌&&◌, ◌||◌, Bool, true, false, not, List, [], ◌∷◌, ◌++◌, codes, length, map, Option, None, Some, Result, Ok, Err, refl, sym, ap, ◌+◌, ◌∙◌, cond, subst, arith}
+use Rattle.std.proofs.lemmas.Bool.{and_parts, leb-true}
 use Rattle.std.proofs.lemmas.Bool.Decides.{nat_tests}
 use Rattle.std.proofs.lemmas.List.{length-map}
 use Rattle.std.proofs.lemmas.Option.{cond_some, option_and_then_some}
-use Rattle.std.specs.List.{AllByRecursion, list_all}
+use Rattle.std.specs.List.{list_all, list_any, position, position_from}
 use Rattle.std.specs.Option.{option_map, unwrap_or}
-use Rattle.std.specs.Prelude.{option_and_then, if◌then◌else◌, is_some, nat_le}
+use Rattle.std.specs.Prelude.{is_some, nat_le}
 use Rattle.std.specs.Str.{bytes_eq}
-use Rattle.xs_base.specs.Reading.{◌>>=◌}
+use Rattle.xs_base.specs.Reading.{◌>>=◌, collect, with_front}
 use Rattle.xs_base.specs.declared.fault.Fault.{Fault}
 use Rattle.xs_base.specs.declared.place.Line.{Line}
 use Rattle.xs_iface.specs.declared.drafts.Draft.{Draft}
@@ -19,17 +19,20 @@ use Rattle.xs_base.specs.declared.runs.ByteClass.TheVariants.{Blank, Name, Word}
 use Rattle.xs_iface.specs.declared.terms.TheConstants.{INT_MAX, MOST_TERMS}
 use Rattle.xs_iface.specs.declared.xsub.Module.{Module}
 use Rattle.xs_iface.specs.declared.xsub.Param.{Param}
-use Rattle.xs_iface.specs.declared.xsub.Term.TheVariants.{Literal, Parameter}
 use Rattle.xs_iface.specs.declared.xsub.Xsub.{Xsub}
-use Rattle.xs_iface.specs.Iface.{body_paragraph, collect, draft_from, draft_of, draft_or_fault, first_fault, interface_fault, module_from, module_of, module_with, name_fault, param_at, part_line, perl_name, xsub_from, xsub_of}
-use Rattle.xs_iface.specs.Paragraph.{interface_of, interface_with, is_frame, is_literal, is_term, literal_of, paragraph_from, paragraph_of, paragraph_with, place_of, sum_of, sum_with, term_of}
+use Rattle.xs_iface.specs.Iface.{body_paragraph, draft_from, draft_of, draft_or_fault, first_fault, interface_fault, module_from, module_of, module_with, name_fault, param_at, part_line, perl_name, xsub_from, xsub_of}
+use Rattle.xs_iface.specs.Paragraph.{interface_of, interface_with, is_frame, is_literal, is_term, literal_of, paragraph_from, paragraph_of, paragraph_with, sum_of, sum_with, term_at, term_of}
 use Rattle.xs_base.proofs.FrontRuns.{front_belongs}
+use Rattle.xs_base.proofs.Choices.{some_if}
+use Rattle.xs_base.proofs.Stages.{bound}
+use Rattle.std.proofs.lemmas.Iterator.Adapters.{position_from-zero}
+use Rattle.std.proofs.lemmas.List.Quantifiers.{position-Some}
 use Rattle.xs_base.proofs.Qualified.{identifier_bytes}
-use Rattle.xs_base.specs.Names.{is_among}
 use Rattle.xs_base.specs.Runs.{behind, behind_blanks, belongs, front_of}
 use Rattle.xs_base.specs.Scanning.{after_word, is_identifier, value_of_digits}
 use Rattle.xs_iface.specs.Scan.{Chain, chain_of, chain_within, linked}
-use Rattle.xs_iface.specs.SumForm.{All, Differ, IsSumModule, IsSumXsub, IsTermOf}
+use Rattle.std.specs.List.{AllByRecursion as All}
+use Rattle.xs_iface.specs.SumForm.{Differ, IsSumModule, IsSumXsub, IsTermOf}
 use Rattle.xs_iface.specs.Words.{is_free, is_reserved}
 use Rattle.xs_iface.proofs.Apart.{are_apart, few_params, names_apart, params_apart}
 use Rattle.xs_iface.proofs.NameBytes.{full_bytes, glue_is, glue_tail, package_bytes, perl_bytes, tail_bytes}
@@ -38,6 +41,7 @@ use Rattle.xs_sections.specs.declared.sections.Part.{Part}
 use Rattle.xs_sections.specs.declared.sections.PartBody.{PartBody}
 use Rattle.xs_sections.specs.declared.sections.PartBody.TheVariants.{Para, Map}
 use Rattle.xs_sections.specs.declared.sections.Sections.{Sections}
+use Rattle.xs_sections.proofs.Unless.{faultless}
 use Rattle.xs_sections.proofs.Named.{are_named, is_name_or_empty}
 
 -- ---- what a chain of steps came from
@@ -51,66 +55,52 @@ mapped : {A B : Type 0} (f : A → B) (o : Option A) (b : B) → option_map f o 
 mapped f None b h = absurd cc
 mapped f (Some a) b h = record { at = a; was = refl; then_is = cc }
 
-record Bound {A B : Type 0} (r : Result A Fault) (k : A → Result B Fault) (b : B) : Type 0 where
-  at : A
-  was : r ≡ Ok at
-  then_is : k at ≡ Ok b
-
-bound : {A B : Type 0} (r : Result A Fault) (k : A → Result B Fault) (b : B) → (r >>= k) ≡ Ok b → Bound r k b
-bound (Ok a) k b h = record { at = a; was = refl; then_is = h }
-bound (Err f) k b h = absurd cc
-
-record Faultless {A : Type 0} (o : Option Fault) (a b : A) : Type 0 where
-  none : o ≡ None
-  same : a ≡ b
-
-faultless : {A : Type 0} (o : Option Fault) (a b : A) → unless_fault o a ≡ Ok b → Faultless o a b
-faultless None a b h = record { none = refl; same = cc }
-faultless (Some f) a b h = absurd cc
-
 one_value : {A : Type 0} (r : Result A Fault) (a b : A) → r ≡ Ok a → r ≡ Ok b → a ≡ b
 one_value r a b e f = cc
 
 -- what holds of all that a list gives
 collected : {A B : Type 0} (read : A → Result B Fault) (P : A → Type 0) (Q : B → Type 0) → ((x : A) (y : B) → P x → read x ≡ Ok y → Q y)
-    → (xs : List A) (ys : List B) → AllByRecursion P xs → collect read xs ≡ Ok ys → AllByRecursion Q ys
-collected read P Q each [] ys p h = subst (AllByRecursion Q) (one_value (Ok []) [] ys refl h) tt
-collected read P Q each (x ∷ xs) ys p h =
-    let a = bound (read x) (λ y. collect read xs >>= (λ zs. Ok (y ∷ zs))) ys h in
-    let b = bound (collect read xs) (λ zs. Ok (a.at ∷ zs)) ys a.then_is in
-    subst (AllByRecursion Q) (one_value (Ok (a.at ∷ b.at)) (a.at ∷ b.at) ys refl b.then_is) (each x a.at p.0 a.was, collected read P Q each xs b.at p.1 b.was)
+    → (xs : List A) (ys : List B) → All P xs → collect read xs ≡ Ok ys → All Q ys
+collected read P Q each [] ys p h = subst (All Q) (one_value (Ok []) [] ys refl h) tt
+collected {A} {B} read P Q each (x ∷ xs) ys p h =
+    let a = bound (read x) (λ y. with_front (y ∷ []) (collect read xs)) ys h in
+    by a.at (each x a.at p.0 a.was) (collect read xs) (collected read P Q each xs) a.then_is
+  where
+    by : (y : B) → Q y → (r : Result (List B) Fault) → ((zs : List B) → All P xs → r ≡ Ok zs → All Q zs) → with_front (y ∷ []) r ≡ Ok ys → All Q ys
+    by y q (Ok zs) ih e = subst (All Q) (one_value (Ok (y ∷ zs)) (y ∷ zs) ys refl e) (q, ih zs p.1 refl)
+    by y q (Err fault) ih e = absurd cc
+
+-- what holds of all that a list is made into
+all_made : {A B : Type 0} (p : A → Bool) (f : A → B) (Q : B → Type 0) → ((x : A) → p x ≡ true → Q (f x)) → (xs : List A) → list_all p xs ≡ true → All Q (map f xs)
+all_made p f Q each [] h = tt
+all_made p f Q each (x ∷ xs) h = let g = and_parts (p x) (list_all p xs) h in (each x g.0, all_made p f Q each xs g.1)
 
 -- ---- terms
-
-within : (a b : ℕ) → nat_le a b ≡ true → a ≤ b
-within a b h = grind (arith, nat_tests)
 
 literal_fits : (word : List ℕ) (o : Option ℕ) → literal_of word ≡ o → is_some o ≡ true → unwrap_or o 0 ≤ INT_MAX
 literal_fits word None e h = absurd cc
 literal_fits word (Some value) e h =
     let p = cond_some (is_literal word && nat_le (value_of_digits word) INT_MAX) (value_of_digits word) value e in
     let q = and_parts (is_literal word) (nat_le (value_of_digits word) INT_MAX) p.0 in
-    subst (λ (v : ℕ). v ≤ INT_MAX) p.1 (within (value_of_digits word) INT_MAX q.1)
+    subst (λ (v : ℕ). v ≤ INT_MAX) p.1 (leb-true (value_of_digits word) INT_MAX q.1)
 
-place_within : (params : List (List ℕ)) (word : List ℕ) → is_among params word ≡ true → place_of params word < length params
-place_within [] word h = absurd cc
-place_within (p ∷ ps) word h = by (bytes_eq p word) h (place_within ps word)
+-- where a test fails on all of a list, it passes on none
+none_found : (test : List ℕ → Bool) (i : ℕ) (names : List (List ℕ)) → position_from test i names ≡ None → list_any test names ≡ false
+none_found test i [] h = refl
+none_found test i (name ∷ names) h = by (test name) h (none_found test (i + 1) names)
   where
-    by : (t : Bool) → (t || is_among ps word) ≡ true → (is_among ps word ≡ true → place_of ps word < length ps) → (if t then zero else suc (place_of ps word)) < suc (length ps)
-    by true g ih = omega arith
-    by false g ih = let le = ih g in omega (arith, le)
+    by : (t : Bool) → cond t (Some i) (position_from test (i + 1) names) ≡ None → (position_from test (i + 1) names ≡ None → list_any test names ≡ false) → (t || list_any test names) ≡ false
+    by true none ih = absurd cc
+    by false none ih = ih none
 
 term_fits : (params : List (List ℕ)) (word : List ℕ) → is_term params word ≡ true → IsTermOf (length params) (term_of params word)
-term_fits params word h = by (is_among params word) refl h
+term_fits params word h = by (position (λ name. bytes_eq name word) params) refl
   where
-    by : (t : Bool) → is_among params word ≡ t → (t || is_some (literal_of word)) ≡ true
-        → IsTermOf (length params) (if t then Parameter (place_of params word) else Literal (unwrap_or (literal_of word) 0))
-    by true e g = place_within params word e
-    by false e g = literal_fits word (literal_of word) refl g
-
-terms_fit : (params words : List (List ℕ)) → list_all (is_term params) words ≡ true → All (IsTermOf (length params)) (map (term_of params) words)
-terms_fit params [] h = tt
-terms_fit params (w ∷ ws) h = let g = and_parts (is_term params w) (list_all (is_term params) ws) h in (term_fits params w g.0, terms_fit params ws g.1)
+    by : (o : Option ℕ) → position (λ name. bytes_eq name word) params ≡ o → IsTermOf (length params) (term_at word o)
+    by (Some place) e = (position-Some (λ name. bytes_eq name word) params place [] e).0
+    by None e =
+        let none = none_found (λ name. bytes_eq name word) 0 params (sym (position_from-zero (λ name. bytes_eq name word) params) ∙ e) in
+        literal_fits word (literal_of word) refl (sym (ap (λ (t : Bool). t || is_some (literal_of word)) none) ∙ h)
 
 -- ---- paragraphs
 
@@ -177,7 +167,7 @@ sum_with_is params text words s some h =
       first = w.first;
       more = w.more;
       words = w.is;
-      few = within (length words.0) 32 c.1;
+      few = leb-true (length words.0) 32 c.1;
       terms = b.1;
     })
 
@@ -204,10 +194,6 @@ paragraph_with_is interface sum output_line q h =
       terms = s.terms;
     }))
 
-framed : (t : Bool) (o : Option Paragraph) (q : Paragraph) → (if t then o else None) ≡ Some q → o ≡ Some q
-framed true o q h = h
-framed false o q h = absurd cc
-
 paragraph_is : (lines : List Line) (q : Paragraph) → paragraph_of lines ≡ Some q → IsSumParagraph q
 paragraph_is [] q h = absurd cc
 paragraph_is (a ∷ []) q h = absurd cc
@@ -216,7 +202,7 @@ paragraph_is (a ∷ b ∷ c ∷ []) q h = absurd cc
 paragraph_is (a ∷ b ∷ c ∷ d ∷ []) q h = absurd cc
 paragraph_is (a ∷ b ∷ c ∷ d ∷ e ∷ []) q h = absurd cc
 paragraph_is (kind ∷ interface ∷ code ∷ sum ∷ output ∷ retval ∷ more) q h =
-    paragraph_with_is interface sum retval.number q (framed (is_frame kind.text code.text output.text retval.text more) (paragraph_with interface sum retval.number) q h)
+    paragraph_with_is interface sum retval.number q (some_if (is_frame kind.text code.text output.text retval.text more) (paragraph_with interface sum retval.number) q h).1
 
 body_is : (body : PartBody) (q : Paragraph) → body_paragraph body ≡ Some q → IsSumParagraph q
 body_is (Para lines) q h = paragraph_is lines q h
@@ -254,10 +240,6 @@ draft_is module_line part d p h = by (body_paragraph part.body) refl h
 
 -- ---- XSUBs
 
-free_all : (line : ℕ) (names : List (List ℕ)) → list_all is_free names ≡ true → All (λ (p : Param). is_free p.name ≡ true) (map (param_at line) names)
-free_all line [] h = tt
-free_all line (n ∷ ns) h = let g = and_parts (is_free n) (list_all is_free ns) h in (g.0, free_all line ns g.1)
-
 names_again : (line : ℕ) (names : List (List ℕ)) → map (λ (p : Param). p.name) (map (param_at line) names) ≡ names
 names_again line [] = refl
 names_again line (n ∷ ns) = ap (λ (rest : List (List ℕ)). n ∷ rest) (names_again line ns)
@@ -277,14 +259,14 @@ xsub_made d i none =
       glue = i.glue;
       tail_bytes = i.tail_bytes;
       full_bytes = i.full_bytes;
-      free_params = free_all line names q.params;
+      free_params = all_made is_free (param_at line) (λ (p : Param). is_free p.name ≡ true) (λ name free. free) names q.params;
       params_differ = subst Differ (sym (names_again line names)) apart.differ;
       few_params = subst P (sym (length-map names (param_at line))) (few_params line names none);
       blanks = q.blanks;
       first_term = term_of names q.first;
       more_terms = map (term_of names) q.more;
       sum_is = ap (λ (ws : List (List ℕ)). map (term_of names) ws) q.words;
-      terms = subst Q (sym (length-map names (param_at line))) (terms_fit names words q.terms);
+      terms = subst Q (sym (length-map names (param_at line))) (all_made (is_term names) (term_of names) (IsTermOf (length names)) (term_fits names) words q.terms);
       few_terms = subst R (sym (length-map words (term_of names))) q.few;
     }
 
@@ -295,7 +277,7 @@ xsub_is d x i h =
 
 -- ---- modules
 
-all_are : {A : Type 0} (P : A → Type 0) (xs : List A) → AllByRecursion P xs → All P xs
+all_are : {A : Type 0} (P : A → Type 0) (xs : List A) → All P xs → All P xs
 all_are P [] h = tt
 all_are P (x ∷ xs) h = (h.0, all_are P xs h.1)
 

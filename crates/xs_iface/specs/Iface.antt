@@ -2,9 +2,9 @@
 use Rattle.std.specs.Option.{option_or, unwrap_or}
 use Rattle.std.specs.Prelude.{ℕ, ◌==◌, ◌-◌, ◌||◌, nat_le, List, [], ◌∷◌, ◌++◌, length, map, codes, Option, None, Some, Result, Ok, Err, if◌then◌else◌}
 use Rattle.xs_base.specs.declared.fault.Fault.{Fault}
-use Rattle.xs_base.specs.Reading.{◌>>=◌}
+use Rattle.xs_base.specs.declared.place.FileOf.TheVariants.{Xs}
+use Rattle.xs_base.specs.Reading.{◌>>=◌, collect, not_built_in}
 use Rattle.xs_iface.specs.declared.drafts.Draft.{Draft}
-use Rattle.xs_iface.specs.declared.drafts.TheConstants.{NOT_BUILT}
 use Rattle.xs_iface.specs.declared.paragraph.Paragraph.{Paragraph}
 use Rattle.xs_iface.specs.declared.resolving.TheConstants.{MOST_PARAMS}
 use Rattle.xs_iface.specs.declared.xsub.Module.{Module}
@@ -40,11 +40,6 @@ glue_name package_name name = codes "XS_" ++ underscored package_name ++ codes "
 
 -- ---- lists with faults
 
--- what each element gives, or the first fault
-abbrev pub collect : {A B : Type 0} → (A → Result B Fault) → List A → Result (List B) Fault
-collect read [] = Ok []
-collect read (x ∷ xs) = read x >>= (λ y. collect read xs >>= (λ ys. Ok (y ∷ ys)))
-
 -- the first fault in a list whose elements are each held against those before it
 abbrev pub first_fault : {A : Type 0} → (List A → A → Option Fault) → List A → List A → Option Fault
 first_fault fault before [] = None
@@ -69,7 +64,7 @@ draft_from part paragraph =
     }
 
 abbrev pub draft_or_fault : ℕ → Part → Option Paragraph → Result Draft Fault
-draft_or_fault line part None = Err (fault_at line NOT_BUILT [])
+draft_or_fault line part None = Err (not_built_in Xs line)
 draft_or_fault line part (Some paragraph) = Ok (draft_from part paragraph)
 
 abbrev pub body_paragraph : PartBody → Option Paragraph

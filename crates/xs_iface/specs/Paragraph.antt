@@ -1,7 +1,7 @@
 -- The form of an XSUB that gives a sum: its six lines, and what they say.
-use Rattle.std.specs.List.{list_all}
+use Rattle.std.specs.List.{list_all, position}
 use Rattle.std.specs.Option.{option_map, unwrap_or}
-use Rattle.std.specs.Prelude.{ℕ, zero, suc, ◌==◌, ◌&&◌, ◌||◌, not, nat_le, Bool, false, List, [], ◌∷◌, length, codes, Option, None, Some, is_some, option_and_then, if◌then◌else◌}
+use Rattle.std.specs.Prelude.{ℕ, ◌==◌, ◌&&◌, ◌||◌, not, nat_le, Bool, false, List, [], ◌∷◌, length, codes, Option, None, Some, is_some, option_and_then, if◌then◌else◌}
 use Rattle.std.specs.Str.{bytes_eq}
 use Rattle.xs_base.specs.declared.place.Line.{Line}
 use Rattle.xs_iface.specs.declared.paragraph.Interface.{Interface}
@@ -14,16 +14,15 @@ use Rattle.xs_iface.specs.declared.xsub.Term.TheVariants.{Literal, Parameter}
 use Rattle.xs_iface.specs.Words.{is_free}
 use Rattle.xs_base.specs.Names.{is_among}
 use Rattle.xs_base.specs.Runs.{behind, behind_blanks, front_of}
-use Rattle.xs_base.specs.Scanning.{after_word, is_blank_line, is_digit, value_of_digits}
+use Rattle.xs_base.specs.Readers.{head_is}
+use Rattle.xs_base.specs.Scanning.{after_word, is_blank_line, is_decimal, is_digit, value_of_digits}
 use Rattle.xs_iface.specs.Scan.{Chain, chain_of}
 
 -- ---- terms
 
 -- digits, one at least, without a zero in front of others
 abbrev pub is_literal : List ℕ → Bool
-is_literal [] = false
-is_literal (d ∷ []) = is_digit d
-is_literal (d ∷ e ∷ es) = not (d == 48) && list_all is_digit (d ∷ e ∷ es)
+is_literal word = head_is is_digit word && is_decimal word
 
 -- the value of a decimal literal, which is at most the greatest `int`
 abbrev pub literal_of : List ℕ → Option ℕ
@@ -33,14 +32,14 @@ literal_of word = if is_literal word && nat_le (value_of_digits word) INT_MAX th
 abbrev pub is_term : List (List ℕ) → List ℕ → Bool
 is_term params word = is_among params word || is_some (literal_of word)
 
--- the first place at which a name stands
-abbrev pub place_of : List (List ℕ) → List ℕ → ℕ
-place_of [] word = zero
-place_of (name ∷ names) word = if bytes_eq name word then zero else suc (place_of names word)
+-- what a term says that is the parameter at a place, or else a literal
+abbrev pub term_at : List ℕ → Option ℕ → Term
+term_at word (Some place) = Parameter place
+term_at word None = Literal (unwrap_or (literal_of word) 0)
 
 -- what a term says: the first parameter of that name, or else the literal
 abbrev pub term_of : List (List ℕ) → List ℕ → Term
-term_of params word = if is_among params word then Parameter (place_of params word) else Literal (unwrap_or (literal_of word) 0)
+term_of params word = term_at word (position (λ name. bytes_eq name word) params)
 
 -- ---- lines
 

@@ -1,5 +1,5 @@
 -- What holds of the module of each XS file whose XSUBs are sums.
-use Rattle.std.specs.List.{list_all, list_any}
+use Rattle.std.specs.List.{AllByRecursion, list_all, list_any}
 use Rattle.std.specs.Prelude.{◌≡◌, ℕ, ◌<◌, ◌≤◌, true, false, List, [], ◌∷◌, ◌++◌, map, length, codes}
 use Rattle.std.specs.Str.{bytes_eq}
 use Rattle.xs_iface.specs.declared.terms.TheConstants.{INT_MAX}
@@ -11,11 +11,6 @@ use Rattle.xs_iface.specs.declared.xsub.Xsub.{Xsub}
 use Rattle.xs_base.specs.Names.{is_qualified_name}
 use Rattle.xs_base.specs.Runs.{belongs}
 use Rattle.xs_iface.specs.Words.{is_free}
-
--- each element has the property
-abbrev pub All : {A : Type 0} → (A → Type 0) → List A → Type 0
-All P [] = Unit {0}
-All P (x ∷ xs) = P x × All P xs
 
 -- no name stands twice: none is that of a later place
 abbrev pub Differ : List (List ℕ) → Type 0
@@ -34,19 +29,19 @@ pub record IsSumXsub (x : Xsub) : Type 0 where
   pub glue : x.glue ≡ codes "XS_" ++ tail
   pub tail_bytes : list_all (belongs Word) tail ≡ true
   pub full_bytes : list_all (belongs Name) x.full ≡ true
-  pub free_params : All (λ p. is_free p.name ≡ true) x.params
+  pub free_params : AllByRecursion (λ p. is_free p.name ≡ true) x.params
   pub params_differ : Differ (map (λ p. p.name) x.params)
   pub few_params : length x.params ≤ 64
   pub blanks : list_all (belongs Blank) x.indent ≡ true
   pub first_term : Term
   pub more_terms : List Term
   pub sum_is : x.sum ≡ first_term ∷ more_terms
-  pub terms : All (IsTermOf (length x.params)) x.sum
+  pub terms : AllByRecursion (IsTermOf (length x.params)) x.sum
   pub few_terms : length x.sum ≤ 32
 
 -- A module of such XSUBs, which differ in their names for Perl and in the names of their glue functions.
 pub record IsSumModule (m : Module) : Type 0 where
   pub boot : is_qualified_name m.boot ≡ true
-  pub xsubs : All IsSumXsub m.xsubs
+  pub xsubs : AllByRecursion IsSumXsub m.xsubs
   pub names_differ : Differ (map (λ x. x.full) m.xsubs)
   pub glues_differ : Differ (map (λ x. x.glue) m.xsubs)

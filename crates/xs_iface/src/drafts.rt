@@ -1,16 +1,13 @@
 //! Paragraphs of the form, with the names of their functions.
 ghost use Rattle.std.specs.Prelude.{◌≡◌, IfOk};
-ghost use Rattle.xs_base.specs.Reading.{Gives};
-ghost use Rattle.xs_iface.specs.Iface.{body_paragraph, collect, draft_from, draft_of, part_line};
+ghost use Rattle.xs_base.specs.Reading.{Gives, collect};
+ghost use Rattle.xs_iface.specs.Iface.{body_paragraph, draft_from, draft_of, part_line};
 
 use crate::paragraph::{Paragraph, read_paragraph};
 use crate::spelling::{full_name, glue_name, perl_name};
 use std::alloc::Global;
-use xs_base::{Bytes, Items, Memory, Refuse};
-use xs_sections::{Part, PartBody, fault_at};
-
-/// The number of a refusal of a form that is not built yet.
-pub const NOT_BUILT: u16 = 999;
+use xs_base::{Bytes, Fault, FileOf, Items, Memory, Refuse};
+use xs_sections::{Part, PartBody};
 
 /// A paragraph of the form, and the names of its function.
 #[derive(Debug, Drop)]
@@ -75,10 +72,10 @@ fn read_draft(alloc: Global, module_line: u32, part: &Part) -> Result<Draft, Ref
             let draft = name_paragraph(alloc, part, paragraph)?;
             Ok(draft)
         }
-        None => Err(Refuse::Fault(fault_at(
+        None => Err(Refuse::Fault(Fault::not_built(
+            alloc,
+            FileOf::Xs,
             part_line(module_line, &part.body),
-            NOT_BUILT,
-            Bytes::new(alloc),
         ))),
     }
 }

@@ -15,7 +15,7 @@ mod tests;
 mod words;
 mod xsub;
 
-pub use drafts::{NOT_BUILT, part_line};
+pub use drafts::part_line;
 pub use laws::module_is_of_sums;
 pub use paragraph::is_sum_xsub;
 pub use reading::read_module;

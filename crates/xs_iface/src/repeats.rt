@@ -8,8 +8,7 @@ ghost use Rattle.xs_sections.specs.Faults.{fault_at};
 use crate::xsub::Xsub;
 use indexmap::IndexSet;
 use std::alloc::Global;
-use xs_base::{Fault, Memory};
-use xs_sections::fault_at;
+use xs_base::{Fault, FileOf, Memory};
 
 // Notes a name, and says whether it is a new one.
 fn note_name<'a>(names: &mut IndexSet<&'a [u8]>, name: &'a [u8]) -> Result<bool, Memory>
@@ -25,7 +24,7 @@ fn repeat_of(alloc: Global, xsub: &Xsub) -> Result<Fault, Memory>
     ensures { IfOk result (λ fault. fault ≡ fault_at xsub.now.line 407 xsub.now.full) }
 {
     let word = xsub.full.copy(alloc)?;
-    Ok(fault_at(xsub.line, 407, word))
+    Ok(Fault::new(FileOf::Xs, xsub.line, 407, word))
 }
 
 /// The fault of the first XSUB that has the name for Perl or the glue name of an earlier one.

@@ -1,15 +1,14 @@
 //! The parameters and terms of an XSUB.
 ghost use Rattle.std.specs.Prelude.{◌≡◌, IfOk, map};
-ghost use Rattle.xs_base.specs.Reading.{Gives};
-ghost use Rattle.xs_iface.specs.Iface.{collect, interface_fault, param_at, param_fault, xsub_of};
+ghost use Rattle.xs_base.specs.Reading.{Gives, collect};
+ghost use Rattle.xs_iface.specs.Iface.{interface_fault, param_at, param_fault, xsub_of};
 
 use crate::drafts::Draft;
 use crate::paragraph::Paragraph;
-use crate::terms::{is_among, read_terms};
+use crate::terms::read_terms;
 use crate::xsub::{Param, Xsub};
 use std::alloc::Global;
-use xs_base::{Bytes, Fault, Items, Memory, Refuse};
-use xs_sections::fault_at;
+use xs_base::{Bytes, Fault, FileOf, Items, Memory, Refuse, is_among_names};
 
 /// How many parameters an XSUB may have.
 pub const MOST_PARAMS: usize = 64;
@@ -23,10 +22,10 @@ fn param_fault(
 ) -> Result<Option<Fault>, Memory>
     ensures { IfOk result (λ fault. fault ≡ param_fault line before.now name.now) }
 {
-    if is_among(before, name.as_slice()) {
-        Ok(Some(fault_at(line, 303, name.copy(alloc)?)))
+    if is_among_names(before, name.as_slice()) {
+        Ok(Some(Fault::new(FileOf::Xs, line, 303, name.copy(alloc)?)))
     } else if before.len() >= MOST_PARAMS {
-        Ok(Some(fault_at(line, 304, Bytes::new(alloc))))
+        Ok(Some(Fault::bare(alloc, FileOf::Xs, line, 304)))
     } else {
         Ok(None)
     }

@@ -1,13 +1,14 @@
 //! The terms of a sum.
-ghost use Rattle.std.specs.List.{list_all};
+ghost use Rattle.std.specs.List.{list_all, position};
 ghost use Rattle.std.specs.Prelude.{◌≡◌, ◌≤◌, IfOk, None, Some, length, map};
-ghost use Rattle.xs_base.specs.Names.{is_among};
-ghost use Rattle.xs_iface.specs.Paragraph.{is_literal, is_term, literal_of, place_of, term_of};
+ghost use Rattle.std.specs.Str.{bytes_eq};
+ghost use Rattle.xs_iface.specs.Paragraph.{is_literal, is_term, literal_of, term_of};
 
-use crate::words::is_same;
 use crate::xsub::Term;
 use std::alloc::Global;
-use xs_base::{ByteClass, Bytes, Items, Memory, are_all, digits_value, is_digit};
+use xs_base::{
+    ByteClass, Bytes, Items, Memory, begins_with_class, digits_value, is_among_names, is_decimal,
+};
 
 /// The greatest `int`.
 pub const INT_MAX: u64 = 2_147_483_647;
@@ -32,25 +33,14 @@ fn read_literal(word: &[u8]) -> Option<u32>
 fn is_literal(word: &[u8]) -> bool
     ensures { result ≡ is_literal word.now }
 {
-    match word {
-        [] => false,
-        [digit] => is_digit(*digit),
-        [first, ..] => *first != b'0' && are_all(ByteClass::Digit, word),
-    }
-}
-
-/// Whether a name is among others.
-pub fn is_among(names: &[Bytes], word: &[u8]) -> bool
-    ensures { result ≡ is_among names.now word.now }
-{
-    names.iter().any(|name| is_same(name.as_slice(), word))
+    begins_with_class(ByteClass::Digit, word) && is_decimal(word)
 }
 
 // Whether a word is a term: the name of a parameter, or a literal.
 fn is_term(params: &[Bytes], word: &[u8]) -> bool
     ensures { result ≡ is_term params.now word.now }
 {
-    is_among(params, word) || read_literal(word).is_some()
+    is_among_names(params, word) || read_literal(word).is_some()
 }
 
 /// Whether each word is a term.
@@ -61,29 +51,22 @@ pub fn are_terms(params: &[Bytes], words: &[Bytes]) -> bool
 }
 
 // The first place at which a name stands, counted from 0.
-fn place_of(params: &[Bytes], word: &[u8]) -> u32
-    requires { length params.now ≤ 64 }
-    ensures { result ≡ place_of params.now word.now }
+fn place_of(params: &[Bytes], word: &[u8]) -> Option<usize>
+    ensures { result ≡ position (λ name. bytes_eq name word.now) params.now }
 {
-    let mut place = 0;
-    for name in params {
-        if is_same(name.as_slice(), word) {
-            return place;
-        }
-        place += 1;
-    }
-    place
+    params.iter().position(|name| name.as_slice() == word)
 }
 
 // What a term says.
+#[tactic(auto, using(crate::proofs::Places::place_is_small))]
 fn read_term(params: &[Bytes], word: &[u8]) -> Term
     requires { length params.now ≤ 64 }
     ensures { result ≡ term_of params.now word.now }
 {
-    if is_among(params, word) {
-        return Term::Parameter(place_of(params, word));
+    match place_of(params, word) {
+        Some(place) => Term::Parameter(place as u32),
+        None => Term::Literal(read_literal(word).unwrap_or(0)),
     }
-    Term::Literal(read_literal(word).unwrap_or(0))
 }
 
 /// What the terms say.

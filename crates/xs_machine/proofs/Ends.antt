@@ -8,7 +8,7 @@ use Rattle.xs_values.specs.declared.operator.Op.{Op}
 use Rattle.xs_values.specs.declared.trap.Trap.{Trap}
 use Rattle.xs_values.specs.declared.trap.Trap.TheVariants as trap
 use Rattle.xs_api.specs.declared.api.Abrupt.{Abrupt}
-use Rattle.xs_api.specs.declared.api.Abrupt.TheVariants.{Returns, Croaks, Traps, Spent}
+use Rattle.xs_api.specs.declared.api.Abrupt.TheVariants.{Croaks, Traps, Spent}
 use Rattle.xs_api.specs.declared.api.Operand.{Operand}
 use Rattle.xs_api.specs.declared.api.Operand.TheVariants.{Unset, Num, Scalar, Void}
 use Rattle.xs_api.specs.declared.stacks.Depths.{Depths}
@@ -17,9 +17,10 @@ use Rattle.xs_ccheck.specs.Tree.{XsEnd, Tree, Literal, Variable, ItemCount, Assi
 use Rattle.xs_api.specs.World.{World, Swept, Clean, Dirty, depths_of}
 use Rattle.xs_api.specs.Effects.{Prims, Effect, Gives, Ends}
 use Rattle.xs_machine.specs.State.{State, Out, Done, Stop, tick, lift, read_value, assigned, write_var, assign_as, given, calculate, item_count, operate, convert, truth_of}
-use Rattle.xs_api.specs.Rows.{counted_rows, most_items}
+use Rattle.xs_api.specs.declared.stacks.TheConstants.{MOST_ITEMS}
+use Rattle.xs_api.specs.Rows.{counted_rows}
 use Rattle.xs_machine.specs.Cmean.{meaning}
-use Rattle.xs_machine.specs.Machine.{Work, DoTree, DoTrees, DoBlock, SetVar, Operate, ConvertTop, DoRow, Branch, ForgetTop, DropTop, Enter, Leave, Mach, taken, undefined_text, run_on, halt, on_top, unwind, at_leave, swept_to, land, fall_off, branch_on, entered, enter, act_tree, act, step_at, step, steps, tree_size, all_size, entry_size, left, run, call_meaning, call_over, is_over, begun_with, begun_state}
+use Rattle.xs_machine.specs.Machine.{Work, DoTree, DoTrees, DoBlock, SetVar, Operate, ConvertTop, DoRow, Branch, ForgetTop, DropTop, Enter, Leave, Mach, taken, undefined_text, run_on, halt, on_top, unwind, at_leave, swept_to, land, fall_off, branch_on, entered, enter, act_tree, act, step_at, step, steps, tree_size, all_size, entry_size, left, run, call_meaning, call_over, is_over, begun_state, unless_barred}
 use Rattle.xs_machine.specs.declared.machine.Outcome.TheVariants as outcome
 use Rattle.xs_machine.specs.Law.{CallMeans, RunEnds}
 use Rattle.xs_machine.proofs.Follows.{Comes, comes_on, comes_by, comes_at, tree_follows}
@@ -66,15 +67,24 @@ module _ {S : Type 0} (P : Prims S) (code : Code) where
   less_left : (m : Mach S) (t s size : ℕ) → Below m t s → s < size → left code m < t * most + size
   less_left m t s size b h = falls t m.state.turns most size (all_size m.pending) b.turns (omega (arith, b.size, h))
 
-  swept_below : (text : List ℕ) (w : Swept S) (σ : State S) → Below (swept_to text w σ) σ.turns 0
-  swept_below text (Clean s) σ = record { turns = omega arith; size = omega arith }
-  swept_below text (Dirty t s) σ = record { turns = omega arith; size = omega arith }
+  swept_ended : (text : List ℕ) (w : Swept S) (σ : State S) → (swept_to text w σ).pending ≡ []
+  swept_ended text (Clean s) σ = refl
+  swept_ended text (Dirty t s) σ = refl
+
+  leave_ended : (a : Abrupt) (d : Depths) (σ : State S) → (at_leave P a d σ).pending ≡ []
+  leave_ended (Croaks text) d σ = swept_ended text (P.cut d σ.store) σ
+  leave_ended a d σ = refl
+
+  swept_turns : (text : List ℕ) (w : Swept S) (σ : State S) → (swept_to text w σ).state.turns ≤ σ.turns
+  swept_turns text (Clean s) σ = omega arith
+  swept_turns text (Dirty t s) σ = omega arith
+
+  leave_turns : (a : Abrupt) (d : Depths) (σ : State S) → (at_leave P a d σ).state.turns ≤ σ.turns
+  leave_turns (Croaks text) d σ = swept_turns text (P.cut d σ.store) σ
+  leave_turns a d σ = omega arith
 
   leave_below : (a : Abrupt) (d : Depths) (σ : State S) → Below (at_leave P a d σ) σ.turns 0
-  leave_below (Returns names) d σ = record { turns = omega arith; size = omega arith }
-  leave_below (Croaks text) d σ = swept_below text (P.cut d σ.store) σ
-  leave_below (Traps t) d σ = record { turns = omega arith; size = omega arith }
-  leave_below Spent d σ = record { turns = omega arith; size = omega arith }
+  leave_below a d σ = record { turns = leave_turns a d σ; size = omega (arith, ap all_size (leave_ended a d σ)) }
 
   unwind_below : (a : Abrupt) (k : List Work) (σ : State S) → Below (unwind P a k σ) σ.turns 0
   unwind_below a [] σ = record { turns = omega arith; size = omega arith }
@@ -238,16 +248,6 @@ module _ {S : Type 0} (P : Prims S) (code : Code) where
 
   -- ---- a call
 
-  swept_ended : (text : List ℕ) (w : Swept S) (σ : State S) → (swept_to text w σ).pending ≡ []
-  swept_ended text (Clean s) σ = refl
-  swept_ended text (Dirty t s) σ = refl
-
-  leave_ended : (a : Abrupt) (d : Depths) (σ : State S) → (at_leave P a d σ).pending ≡ []
-  leave_ended (Returns names) d σ = refl
-  leave_ended (Croaks text) d σ = swept_ended text (P.cut d σ.store) σ
-  leave_ended (Traps t) d σ = refl
-  leave_ended Spent d σ = refl
-
   fall_ended : (d : Depths) (o : Out S Operand) → (fall_off P d o).pending ≡ []
   fall_ended d (Done v σ) = refl
   fall_ended d (Stop a σ) = leave_ended a d σ
@@ -282,17 +282,18 @@ module _ {S : Type 0} (P : Prims S) (code : Code) where
   pub run_over : (f : Option ℕ) (d : Depths) (σ : State S) → steps P code (left code (run_on (Enter f ∷ Leave d ∷ []) [] σ)) (run_on (Enter f ∷ Leave d ∷ []) [] σ) ≡ call_over P code d (call_meaning P code (function_at code f) σ)
   run_over f d σ = run_is _ _ (call_comes f d σ) (over_ended d (call_meaning P code (function_at code f) σ))
 
-at_limit : (code : Code) (large : Bool) (sub : List ℕ) (f : Option ℕ) (args : List ℕ) (turns : ℕ) (m : Mach World) → run code (cond large (halt (outcome.Trapped trap.Large) m.state) (begun_with sub f args turns m.state)) ≡ cond large (halt (outcome.Trapped trap.Large) m.state) (call_over counted_rows code (depths_of m.state.store) (call_meaning counted_rows code (function_at code f) (begun_state sub args turns m.state)))
-at_limit code true sub f args turns m = stays counted_rows code (left code (halt (outcome.Trapped trap.Large) m.state)) (halt (outcome.Trapped trap.Large) m.state) refl
-at_limit code false sub f args turns m = run_over counted_rows code f (depths_of m.state.store) (begun_state sub args turns m.state)
+at_end : (code : Code) (over : Bool) (m begun met : Mach World) → m.pending ≡ [] → run code begun ≡ met → run code (cond over m begun) ≡ cond over m met
+at_end code true m begun met idle e = stays counted_rows code (left code m) m idle
+at_end code false m begun met idle e = e
 
-at_end : (code : Code) (over : Bool) (sub : List ℕ) (f : Option ℕ) (args : List ℕ) (turns : ℕ) (m begun met : Mach World) → m.pending ≡ [] → run code begun ≡ met → run code (cond over m begun) ≡ cond over m met
-at_end code true sub f args turns m begun met idle e = stays counted_rows code (left code m) m idle
-at_end code false sub f args turns m begun met idle e = e
+-- what bars a call bars its run
+unless_barred_run : (code : Code) (args : List ℕ) (m begun met : Mach World) → m.pending ≡ [] → run code begun ≡ met → run code (unless_barred args m begun) ≡ unless_barred args m met
+unless_barred_run code args m begun met idle e =
+    at_end code (is_over m.stopped) m _ _ idle (at_end code (nat_lt MOST_ITEMS (m.state.store.top + length args)) (halt (outcome.Trapped trap.Large) m.state) begun met refl e)
 
 pub call_means : (code : Code) → CallMeans code
 call_means code sub f args turns m idle =
-    at_end code (is_over m.stopped) sub f args turns m _ _ idle (at_limit code (nat_lt most_items (m.state.store.top + length args)) sub f args turns m)
+    unless_barred_run code args m _ _ idle (run_over counted_rows code f (depths_of m.state.store) (begun_state sub args turns m.state))
 
 pub run_ends : (code : Code) → RunEnds code
 run_ends code m = ends counted_rows code m

@@ -1,5 +1,6 @@
 -- The machine follows the meaning: an induction on the tree.
-use Rattle.std.proofs.Common.{◌≡◌, ℕ, suc, ◌+◌, Bool, true, false, List, [], ◌∷◌, ◌++◌, length, refl, ap, ◌∙◌, arith, append-nil, Option, Some, None}
+use Rattle.std.proofs.Common.{◌≡◌, ℕ, suc, Bool, true, false, List, [], ◌∷◌, length, refl, ap, ◌∙◌, arith, Option, Some, None}
+use mathlib.Core.List.{reverse_aux}
 use Rattle.xs_api.specs.declared.api.Abrupt.{Abrupt}
 use Rattle.xs_api.specs.declared.api.Operand.{Operand}
 use Rattle.xs_api.specs.declared.api.Operand.TheVariants.{Void}
@@ -9,22 +10,7 @@ use Rattle.xs_machine.specs.State.{State, Out, Done, Stop, ◌>>=◌, lift, assi
 use Rattle.xs_machine.specs.Cmean.{choose, meaning, meanings, meaning_all}
 use Rattle.xs_machine.specs.Machine.{Work, DoTree, DoTrees, DoBlock, SetVar, Operate, ConvertTop, DoRow, Branch, ForgetTop, DropTop, Mach, taken, run_on, unwind, land, branch_on, step, steps}
 use Rattle.xs_machine.specs.Law.{MachineFollows}
-
--- what operands leave: the last on top
-abbrev onto : List Operand → List Operand → List Operand
-onto [] vs = vs
-onto (v ∷ l) vs = onto l (v ∷ vs)
-
-taken-onto : (l : List Operand) (m : ℕ) (acc vs : List Operand) → taken (length l + m) acc (onto l vs) ≡ taken m (l ++ acc) vs
-taken-onto [] m acc vs = let e : 0 + m ≡ m = omega arith in ap (λ n. taken n acc vs) e
-taken-onto (v ∷ l) m acc vs =
-    let e : length (v ∷ l) + m ≡ length l + suc m = omega arith in
-    ap (λ n. taken n acc (onto l (v ∷ vs))) e ∙ taken-onto l (suc m) acc (v ∷ vs)
-
-taken_all : (l vs : List Operand) (n : ℕ) → length l ≡ n → taken n [] (onto l vs) ≡ (l, vs)
-taken_all l vs n h =
-    let e : n ≡ length l + 0 = omega (arith, h) in
-    ap (λ m. taken m [] (onto l vs)) e ∙ taken-onto l 0 [] vs ∙ ap (λ x. (x, vs)) (append-nil l)
+use Rattle.xs_machine.proofs.Tops.{taken_all}
 
 module _ {S : Type 0} (P : Prims S) (code : Code) where
   -- the machine comes from one state to another
@@ -63,12 +49,12 @@ module _ {S : Type 0} (P : Prims S) (code : Code) where
   operands_sized NoTrees σ = refl
   operands_sized (MoreTrees t ts) σ = sized_more (tree_count ts) (meaning P t σ) (meanings P ts) (operands_sized ts)
 
-  then_row : (m : Mach S) (n : ℕ) (w : Work) (k : List Work) (vs : List Operand) (o : Out S (List Operand)) (go : List Operand → State S → Out S Operand) → Sized n o → Comes m (land P onto (w ∷ k) vs o) → ((a : Abrupt) (σ : State S) → unwind P a (w ∷ k) σ ≡ unwind P a k σ) → ((l : List Operand) (σ : State S) → taken n [] (onto l vs) ≡ (l, vs) → Comes (run_on (w ∷ k) (onto l vs) σ) (land P ◌∷◌ k vs (go l σ))) → Comes m (land P ◌∷◌ k vs (o >>= go))
+  then_row : (m : Mach S) (n : ℕ) (w : Work) (k : List Work) (vs : List Operand) (o : Out S (List Operand)) (go : List Operand → State S → Out S Operand) → Sized n o → Comes m (land P reverse_aux (w ∷ k) vs o) → ((a : Abrupt) (σ : State S) → unwind P a (w ∷ k) σ ≡ unwind P a k σ) → ((l : List Operand) (σ : State S) → taken n [] (reverse_aux l vs) ≡ (l, vs) → Comes (run_on (w ∷ k) (reverse_aux l vs) σ) (land P ◌∷◌ k vs (go l σ))) → Comes m (land P ◌∷◌ k vs (o >>= go))
   then_row m n w k vs (Done l σ) go s f skip next = comes_by m _ _ f (next l σ (taken_all l vs n s))
   then_row m n w k vs (Stop a σ) go s f skip next = comes_by m _ _ f (comes_at _ _ (skip a σ))
 
   -- one more operand in front
-  cons_operands : (m : Mach S) (k : List Work) (vs : List Operand) (v : Operand) (o : Out S (List Operand)) → Comes m (land P onto k (v ∷ vs) o) → Comes m (land P onto k vs (o >>= λ l σ. Done (v ∷ l) σ))
+  cons_operands : (m : Mach S) (k : List Work) (vs : List Operand) (v : Operand) (o : Out S (List Operand)) → Comes m (land P reverse_aux k (v ∷ vs) o) → Comes m (land P reverse_aux k vs (o >>= λ l σ. Done (v ∷ l) σ))
   cons_operands m k vs v (Done l σ) f = f
   cons_operands m k vs v (Stop a σ) f = f
 
@@ -111,10 +97,10 @@ module _ {S : Type 0} (P : Prims S) (code : Code) where
         (λ v σ1. comes_on _ _ (comes_at _ _ refl)))
     tree_follows (Declare x) k vs σ = comes_on _ _ (comes_at _ _ refl)
 
-    trees_follow : (xs : Trees) (k : List Work) (vs : List Operand) (σ : State S) → Comes (run_on (DoTrees xs ∷ k) vs σ) (land P onto k vs (meanings P xs σ))
+    trees_follow : (xs : Trees) (k : List Work) (vs : List Operand) (σ : State S) → Comes (run_on (DoTrees xs ∷ k) vs σ) (land P reverse_aux k vs (meanings P xs σ))
     trees_follow NoTrees k vs σ = comes_on _ _ (comes_at _ _ refl)
     trees_follow (MoreTrees t ts) k vs σ =
-        comes_on _ _ (then_on ◌∷◌ onto _ (DoTrees ts ∷ k) k vs vs (meaning P t σ) (λ v σ1. meanings P ts σ1 >>= λ l σ2. Done (v ∷ l) σ2)
+        comes_on _ _ (then_on ◌∷◌ reverse_aux _ (DoTrees ts ∷ k) k vs vs (meaning P t σ) (λ v σ1. meanings P ts σ1 >>= λ l σ2. Done (v ∷ l) σ2)
         (tree_follows t (DoTrees ts ∷ k) vs σ) (λ a σ1. refl)
         (λ v σ1. cons_operands _ k vs v (meanings P ts σ1) (trees_follow ts k (v ∷ vs) σ1)))
 

@@ -1,5 +1,6 @@
 -- A vector as a stack, whose top is its last element.
-use Rattle.std.proofs.Common.{◌≡◌, ℕ, zero, suc, ◌+◌, ◌-◌, List, [], ◌∷◌, ◌++◌, length, take, drop, reverse, refl, sym, ap, ◌∙◌, ⊎_elim, arith, append-nil, append_assoc, length-drop}
+use Rattle.std.proofs.Common.{◌≡◌, ℕ, zero, suc, ◌+◌, ◌-◌, List, [], ◌∷◌, ◌++◌, length, take, drop, reverse, refl, sym, ap, ◌∙◌, ⊎_elim, arith, length-drop}
+use mathlib.Core.List.{reverse_aux, reverse_aux-eq}
 use Rattle.std.proofs.lemmas.Bool.{cases_lt}
 use Rattle.xs_api.specs.declared.api.Operand.{Operand}
 use Rattle.xs_machine.specs.Machine.{taken}
@@ -11,12 +12,17 @@ taken_nil zero acc = refl
 taken_nil (suc n) acc = refl
 
 -- the top part, whose last operand is on top
-taken_top : (r : List Operand) (n : ℕ) (acc vs : List Operand) → taken (length r + n) acc (r ++ vs) ≡ taken n (reverse r ++ acc) vs
+taken_top : (r : List Operand) (n : ℕ) (acc vs : List Operand) → taken (length r + n) acc (r ++ vs) ≡ taken n (reverse_aux r acc) vs
 taken_top [] n acc vs = let e : 0 + n ≡ n = omega arith in ap (λ m. taken m acc vs) e
 taken_top (v ∷ r) n acc vs =
     let e : length (v ∷ r) + n ≡ suc (length r + n) = omega arith in
     ap (λ m. taken m acc (v ∷ r ++ vs)) e ∙ taken_top r n (v ∷ acc) vs
-    ∙ ap (λ l. taken n l vs) (sym (append_assoc (reverse r) (v ∷ []) acc) ∙ ap (λ l. l ++ acc) (sym (reverse-append (v ∷ []) r)))
+
+-- operands that were put on others, the last on top
+pub taken_all : (l vs : List Operand) (n : ℕ) → length l ≡ n → taken n [] (reverse_aux l vs) ≡ (l, vs)
+taken_all l vs n h =
+    let e : n ≡ length (reverse l) + 0 = omega (arith, h, length-reverse l) in
+    ap (λ m. taken m [] (reverse_aux l vs)) e ∙ ap (taken (length (reverse l) + 0) []) (reverse_aux-eq l vs) ∙ taken_top (reverse l) 0 [] vs ∙ ap (λ r. (r, vs)) (reverse-reverse l)
 
 -- the n topmost operands, and the others
 pub taken_split : (s : List Operand) (n at : ℕ) → at ≡ length s - n → taken n [] (reverse s) ≡ (drop at s, reverse (take at s))
@@ -24,7 +30,7 @@ taken_split s n at e =
     let top = drop at s in
     let low = take at s in
     let whole : reverse s ≡ reverse top ++ reverse low = ap reverse (sym (take-append-drop at s)) ∙ reverse-append low top in
-    let back : reverse (reverse top) ++ [] ≡ top = append-nil _ ∙ reverse-reverse top in
+    let back : reverse (reverse top) ≡ top = reverse-reverse top in
     let long = length-reverse top in
     let size : length top ≡ length s - at = length-drop at s in
     ap (λ l. taken n [] l) whole

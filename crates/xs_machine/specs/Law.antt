@@ -1,16 +1,14 @@
 -- The laws: the machine does what the trees mean.
-use Rattle.std.specs.Prelude.{◌≡◌, ℕ, cond, nat_lt, List, [], ◌∷◌, ◌+◌, length, Option}
-use Rattle.xs_values.specs.declared.trap.Trap.TheVariants as trap
+use Rattle.std.specs.Prelude.{◌≡◌, ℕ, List, [], ◌∷◌, Option}
 use Rattle.xs_api.specs.declared.api.Operand.{Operand}
-use Rattle.xs_machine.specs.declared.machine.Outcome.TheVariants as outcome
 use Rattle.xs_ccheck.specs.Functions.{function_at}
 use Rattle.xs_ccheck.specs.Tree.{Tree, Code}
 use Rattle.xs_api.specs.World.{World, depths_of}
 use Rattle.xs_api.specs.Effects.{Prims}
 use Rattle.xs_machine.specs.State.{State}
 use Rattle.xs_machine.specs.Cmean.{meaning}
-use Rattle.xs_api.specs.Rows.{counted_rows, most_items}
-use Rattle.xs_machine.specs.Machine.{Work, DoTree, Mach, run_on, halt, land, steps, run, begun_at, begun_state, is_over, call_meaning, call_over}
+use Rattle.xs_api.specs.Rows.{counted_rows}
+use Rattle.xs_machine.specs.Machine.{Work, DoTree, Mach, run_on, land, steps, run, begun_at, begun_state, call_meaning, call_over, unless_barred}
 
 -- From a tree with any work behind it the machine comes to where the meaning says.
 abbrev pub MachineFollows : {S : Type 0} → Prims S → Code → Type 0
@@ -19,9 +17,7 @@ MachineFollows {S} P code = (t : Tree) (k : List Work) (vs : List Operand) (σ :
 -- what a call of a function under a name comes to, by the meaning of its body
 abbrev pub called_by_meaning : Code → List ℕ → Option ℕ → List ℕ → ℕ → Mach World → Mach World
 called_by_meaning code sub f args turns m =
-    cond (is_over m.stopped) m
-    (cond (nat_lt most_items (m.state.store.top + length args)) (halt (outcome.Trapped trap.Large) m.state)
-    (call_over counted_rows code (depths_of m.state.store) (call_meaning counted_rows code (function_at code f) (begun_state sub args turns m.state))))
+    unless_barred args m (call_over counted_rows code (depths_of m.state.store) (call_meaning counted_rows code (function_at code f) (begun_state sub args turns m.state)))
 
 -- The run of a call comes to where the meaning of the function's body says.
 abbrev pub CallMeans : Code → Type 0

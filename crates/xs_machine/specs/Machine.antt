@@ -5,6 +5,7 @@ use Rattle.xs_values.specs.declared.operator.Op.{Op}
 use Rattle.xs_values.specs.declared.trap.Trap.TheVariants as trap
 use Rattle.xs_api.specs.declared.api.Abrupt.{Abrupt}
 use Rattle.xs_api.specs.declared.api.Abrupt.TheVariants.{Returns, Croaks, Traps, Spent}
+use Rattle.xs_api.specs.declared.api.Frame.{Frame}
 use Rattle.xs_api.specs.declared.api.Operand.{Operand}
 use Rattle.xs_api.specs.declared.api.Operand.TheVariants.{Unset, Num, Void}
 use Rattle.xs_ccheck.specs.declared.code.ValueType.{ValueType}
@@ -16,7 +17,8 @@ use Rattle.xs_ccheck.specs.Tree.{Row, XsEnd, Tree, Literal, Variable, ItemCount,
 use Rattle.xs_api.specs.World.{World, Swept, Clean, Dirty, depths_of, new_cells, registered, sweep}
 use Rattle.xs_api.specs.Effects.{Prims}
 use Rattle.xs_machine.specs.State.{State, Out, Done, Stop, tick, lift, with_store, read_var, write_var, assigned, assign_as, item_count, operate, convert, truth_of}
-use Rattle.xs_api.specs.Rows.{counted_rows, most_items}
+use Rattle.xs_api.specs.declared.stacks.TheConstants.{MOST_ITEMS}
+use Rattle.xs_api.specs.Rows.{counted_rows}
 use Rattle.xs_machine.specs.Cmean.{meaning}
 
 -- A piece of pending work: a tree; operands; statements; what is done with the topmost operands; one of two trees; the entry of a
@@ -88,10 +90,8 @@ module _ {S : Type 0} where
 module _ {S : Type 0} (P : Prims S) where
   -- A run leaves an XS function: a croak frees the temporaries that were made since its entry and cuts the stacks.
   abbrev pub at_leave : Abrupt → Depths → State S → Mach S
-  at_leave (Returns names) d σ = halt (outcome.Returned names) σ
   at_leave (Croaks text) d σ = swept_to text (P.cut d σ.store) σ
-  at_leave (Traps t) d σ = halt (outcome.Trapped t) σ
-  at_leave Spent d σ = halt outcome.Spent σ
+  at_leave a d σ = halt (outcome_of a) σ
 
   -- drops pending work up to where the way out is taken
   abbrev pub unwind : Abrupt → List Work → State S → Mach S
@@ -236,9 +236,13 @@ left code m = m.state.turns * entry_size code.functions + all_size m.pending
 abbrev pub new_world : World
 new_world = record { cells = new_cells; args = []; top = 0; marks = []; temps = []; scopes = []; names = [] }
 
+-- the frame of a function that is called under a name, before its entry
+abbrev pub frame_of : List ℕ → Frame
+frame_of called = record { called = called; base = 0; items = 0 }
+
 -- a machine that has run nothing
 abbrev pub loaded : Mach World
-loaded = record { pending = []; operands = []; state = record { vars = []; frame = record { called = []; base = 0; items = 0 }; store = new_world; turns = 0 }; stopped = outcome.Returned [] }
+loaded = record { pending = []; operands = []; state = record { vars = []; frame = frame_of []; store = new_world; turns = 0 }; stopped = outcome.Returned [] }
 
 abbrev pub step_of : Code → Mach World → Mach World
 step_of code m = step counted_rows code m
@@ -261,16 +265,21 @@ with_call args w = record { cells = w.cells; args = take w.top w.args ++ args; t
 
 -- the state at the beginning of a call
 abbrev pub begun_state : List ℕ → List ℕ → ℕ → State World → State World
-begun_state sub args turns σ = record { vars = []; frame = record { called = sub; base = 0; items = 0 }; store = with_call args σ.store; turns = turns }
+begun_state sub args turns σ = record { vars = []; frame = frame_of sub; store = with_call args σ.store; turns = turns }
 
 abbrev pub begun_with : List ℕ → Option ℕ → List ℕ → ℕ → State World → Mach World
 begun_with sub f args turns σ = run_on (Enter f ∷ Leave (depths_of σ.store) ∷ []) [] (begun_state sub args turns σ)
 
--- The entry of a function under a name is made the pending work. More items than the argument list may have trap Large.
-abbrev pub begun_at : List ℕ → Option ℕ → List ℕ → ℕ → Mach World → Mach World
-begun_at sub f args turns m =
+-- What a call with these arguments comes to, where nothing bars it: behind a run that was over for good nothing is run, and more items
+-- than the argument list may have trap Large.
+abbrev pub unless_barred : List ℕ → Mach World → Mach World → Mach World
+unless_barred args m goes =
     cond (is_over m.stopped) m
-    (cond (nat_lt most_items (m.state.store.top + length args)) (halt (outcome.Trapped trap.Large) m.state) (begun_with sub f args turns m.state))
+    (cond (nat_lt MOST_ITEMS (m.state.store.top + length args)) (halt (outcome.Trapped trap.Large) m.state) goes)
+
+-- The entry of a function under a name is made the pending work.
+abbrev pub begun_at : List ℕ → Option ℕ → List ℕ → ℕ → Mach World → Mach World
+begun_at sub f args turns m = unless_barred args m (begun_with sub f args turns m.state)
 
 -- the entry of the function that is registered under a name
 abbrev pub begun : List ℕ → List ℕ → ℕ → Mach World → Mach World
@@ -293,9 +302,13 @@ booted code turns m = run code (boot_begun code turns m)
 abbrev pub runner_depths : Depths
 runner_depths = record { args = 0; marks = 0; temps = 0; scopes = 0 }
 
+-- the machine with another world
+abbrev pub with_world : World → Mach World → Mach World
+with_world w m = record m { state = with_store w m.state }
+
 abbrev pub settled_to : Swept World → Mach World → Mach World
-settled_to (Clean w) m = record { pending = m.pending; operands = m.operands; state = with_store w m.state; stopped = m.stopped }
-settled_to (Dirty t w) m = record { pending = m.pending; operands = m.operands; state = with_store w m.state; stopped = outcome.Trapped t }
+settled_to (Clean w) m = with_world w m
+settled_to (Dirty t w) m = record (with_world w m) { stopped = outcome.Trapped t }
 
 -- Frees the temporaries of the last call and cuts all stacks to the runner's. Nothing is done where a run was over for good.
 abbrev pub settled : Mach World → Mach World

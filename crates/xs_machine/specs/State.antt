@@ -7,6 +7,7 @@ use Rattle.xs_values.specs.declared.trap.Trap.{Trap}
 use Rattle.xs_values.specs.declared.trap.Trap.TheVariants as trap
 use Rattle.xs_values.specs.Numbers.{Number, calculated, wrapped}
 use Rattle.std.specs.Prelude.{Result, Ok, Err}
+use Rattle.std.specs.Result.{result_map_both}
 use Rattle.xs_api.specs.declared.api.Abrupt.{Abrupt}
 use Rattle.xs_api.specs.declared.api.Abrupt.TheVariants.{Traps}
 use Rattle.xs_api.specs.declared.api.Frame.{Frame}
@@ -102,9 +103,13 @@ module _ {S : Type 0} where
   abbrev pub item_count : State S → Operand
   item_count σ = Num (wrapped I32 (pos σ.frame.items))
 
+  -- a value or a trap
+  abbrev pub given_or : {A : Type 0} → Result A Trap → State S → Out S A
+  given_or (Ok v) σ = Done v σ
+  given_or (Err t) σ = Stop (Traps t) σ
+
   abbrev pub calculate : Result Number Trap → State S → Out S Operand
-  calculate (Ok n) σ = Done (Num n) σ
-  calculate (Err t) σ = Stop (Traps t) σ
+  calculate r σ = given_or (result_map_both Num (λ t. t) r) σ
 
   -- an operator on two operands
   abbrev pub operate : Op → Operand → Operand → State S → Out S Operand

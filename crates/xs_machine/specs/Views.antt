@@ -1,5 +1,5 @@
 -- The machine of the program, seen as the machine of the definitions.
-use Rattle.std.specs.Prelude.{◌≡◌, ℕ, List, [], ◌∷◌, map, reverse, Result, Ok, Err}
+use Rattle.std.specs.Prelude.{◌≡◌, ℕ, List, [], ◌∷◌, map, reverse, Result}
 use Rattle.xs_values.specs.declared.trap.Trap.{Trap}
 use Rattle.xs_api.specs.declared.api.Operand.{Operand}
 use Rattle.xs_ccheck.specs.declared.code.Typed.{Typed}
@@ -9,12 +9,10 @@ use Rattle.xs_machine.specs.declared.machine.Task.{Task}
 use Rattle.xs_machine.specs.declared.machine.Task.TheVariants as task
 use Rattle.xs_ccheck.specs.Arena.{row_of, tree_at, trees_at}
 use Rattle.xs_ccheck.specs.Functions.{code_of}
-use Rattle.xs_machine.specs.Machine.{Mach, Work, short_of, DoTree, DoTrees, DoBlock, SetVar, Operate, ConvertTop, DoRow, Branch, ForgetTop, DropTop, Enter, Leave}
-use Rattle.xs_machine.specs.State.{Out, Done, State, operate, with_store}
-use Rattle.xs_machine.specs.State as state
+use Rattle.xs_machine.specs.Machine.{Mach, Work, short_of, with_world, DoTree, DoTrees, DoBlock, SetVar, Operate, ConvertTop, DoRow, Branch, ForgetTop, DropTop, Enter, Leave}
+use Rattle.xs_machine.specs.State.{State, given_or, operate}
 use Rattle.xs_api.specs.declared.api.Stop.{Stop}
 use Rattle.xs_values.specs.declared.plain.Plain.{Plain}
-use Rattle.xs_api.specs.declared.api.Abrupt.TheVariants.{Traps}
 use Rattle.xs_values.specs.declared.operator.Op.{Op}
 use Rattle.xs_ccheck.specs.Tree.{Code}
 use Rattle.xs_api.specs.Views.{MakesTemporary, world_of}
@@ -50,11 +48,6 @@ mach_of m = record { pending = pending_of m; operands = operands_of m; state = s
 abbrev pub code_in : Machine → Code
 code_in m = code_of m.typed
 
--- a value or a trap
-abbrev pub given_or : Result Operand Trap → State World → Out World Operand
-given_or (Ok v) σ = Done v σ
-given_or (Err t) σ = state.Stop (Traps t) σ
-
 -- a machine that is short of an operand ends all work
 abbrev pub IsShort : Machine → Machine → Type 0
 IsShort old new = (operands_of old ≡ []) × (mach_of new ≡ short_of (state_of old))
@@ -66,10 +59,6 @@ HasTop v old new = (operands_of old ≡ v ∷ operands_of new) × (pending_of ne
 -- what an operator gave
 abbrev pub Operates : Op → Operand → Operand → Result Operand Trap → Type 0
 Operates op a b r = (σ : State World) → operate op a b σ ≡ given_or r σ
-
--- the machine with another world
-abbrev pub with_world : World → Mach World → Mach World
-with_world w m = record { pending = m.pending; operands = m.operands; state = with_store w m.state; stopped = m.stopped }
 
 -- an argument is made as a temporary, and the machine is else as it was
 abbrev pub MakesArgument : Plain → Mach World → Result ℕ Stop → Mach World → Type 0

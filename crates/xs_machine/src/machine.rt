@@ -4,6 +4,7 @@ ghost use Rattle.std.specs.Prelude.{◌≡◌, ◌≢◌, ◌+◌, ◌≤◌, []
 ghost use Rattle.xs_ccheck.specs.Functions.{code_of};
 ghost use Rattle.xs_api.specs.Heaps.{value_at};
 ghost use Rattle.xs_machine.specs.Machine as machine;
+ghost use Rattle.xs_api.specs.declared.stacks.TheConstants.{MOST_ITEMS};
 ghost use Rattle.xs_api.specs.Rows.{counted_rows};
 ghost use Rattle.xs_machine.specs.State as state;
 ghost use Rattle.xs_machine.specs.Views.{IsFailed, MakesArgument, code_in, mach_of, operands_of, pending_of, state_of, task_of};
@@ -89,16 +90,23 @@ impl Machine {
         self.stopped = outcome;
     }
 
+    // Ends all work for want of memory.
+    fn fail(&mut self) -> Memory
+        ensures failed { IsFailed (mach_of self.new) }
+        ensures typed { self.new.typed ≡ self.old.typed }
+    {
+        self.halt(Outcome::Memory);
+        Memory
+    }
+
     // Leaves an XS function: a croak frees the temporaries that were made since its entry and cuts the stacks.
     pub(crate) fn leave(&mut self, abrupt: Abrupt, d: Depths)
         ensures leaves { mach_of self.new ≡ machine.at_leave counted_rows abrupt d (state_of self.old) }
         ensures typed { self.new.typed ≡ self.old.typed }
     {
         match abrupt {
-            Abrupt::Returns(names) => self.halt(Outcome::Returned(names)),
             Abrupt::Croaks(text) => self.leave_by_croak(text, d),
-            Abrupt::Traps(trap) => self.halt(Outcome::Trapped(trap)),
-            Abrupt::Spent => self.halt(Outcome::Spent),
+            other => self.halt(outcome_of(other)),
         }
     }
 
@@ -167,11 +175,7 @@ impl Machine {
                 stacks: Stacks::new(alloc),
                 names: Vec::new(alloc),
             },
-            frame: Frame {
-                called: Bytes::new(alloc),
-                base: 0,
-                items: 0,
-            },
+            frame: frame_of(Bytes::new(alloc)),
             vars: Vec::new(alloc),
             operands: Vec::new(alloc),
             pending: Vec::new(alloc),
@@ -223,10 +227,7 @@ impl Machine {
                 self.stopped = Outcome::Returned(Items::new(self.alloc));
                 match act_on(self, task) {
                     Ok(()) => Ok(Step::Went),
-                    Err(Memory) => {
-                        self.halt(Outcome::Memory);
-                        Err(Memory)
-                    }
+                    Err(Memory) => Err(self.fail()),
                 }
             }
         }
@@ -316,10 +317,7 @@ impl Machine {
         }
         match self.push_entry(sub, function, args, turns) {
             Ok(()) => Ok(()),
-            Err(Memory) => {
-                self.halt(Outcome::Memory);
-                Err(Memory)
-            }
+            Err(Memory) => Err(self.fail()),
         }
     }
 
@@ -330,18 +328,14 @@ impl Machine {
         args: &[Name],
         turns: u32,
     ) -> Result<(), Memory>
-        requires { (mach_of self.old).state.store.top + length args.now ≤ 1000000 }
+        requires { (mach_of self.old).state.store.top + length args.now ≤ MOST_ITEMS }
         ensures begins { OnOk result (mach_of self.new ≡ machine.begun_with sub.now function args.now turns (state_of self.old)) }
         ensures code { code_in self.new ≡ code_in self.old }
     {
         let depths = self.perl.stacks.depths();
         let called = sub.copy(self.alloc)?;
         self.perl.stacks.push_call(args)?;
-        self.frame = Frame {
-            called,
-            base: 0,
-            items: 0,
-        };
+        self.frame = frame_of(called);
         self.vars.clear();
         self.operands.clear();
         self.pending.clear();
@@ -362,7 +356,7 @@ impl Machine {
         match copy_outcome(self.alloc, &self.stopped) {
             Ok(outcome) => outcome,
             Err(Memory) => {
-                self.halt(Outcome::Memory);
+                self.fail();
                 Outcome::Memory
             }
         }
@@ -377,10 +371,8 @@ impl Machine {
         ensures idle { pending_of self.new ≡ [] }
         ensures code { code_in self.new ≡ code_in self.old }
     {
-        match self.begin(sub, args, turns) {
-            Ok(()) => self.finish(),
-            Err(Memory) => Outcome::Memory,
-        }
+        let function = registered(&self.perl.names, sub);
+        self.call_at(sub, function, args, turns)
     }
 
     /// Calls the boot function under its own name, without arguments and in so many turns at most.
@@ -394,10 +386,22 @@ impl Machine {
     {
         let function = self.typed.boot();
         let Ok(name) = self.typed.function_name(self.alloc, function) else {
-            self.halt(Outcome::Memory);
+            self.fail();
             return Outcome::Memory;
         };
-        match self.begin_at(&name, function, &[], turns) {
+        self.call_at(&name, function, &[], turns)
+    }
+
+    // Calls a function under a name, in so many turns at most.
+    fn call_at(&mut self, sub: &Bytes, function: Option<u32>, args: &[Name], turns: u32) -> Outcome
+        requires { pending_of self.old ≡ [] }
+        ensures called { result ≢ Outcome.Memory → (mach_of self.new ≡ machine.run (code_in self.old) (machine.begun_at sub.now function args.now turns (mach_of self.old))) × (result ≡ (mach_of self.new).stopped) }
+        ensures after { (mach_of self.old).stopped ≡ Outcome.Memory → result ≡ Outcome.Memory }
+        ensures failed { result ≡ Outcome.Memory → IsFailed (mach_of self.new) }
+        ensures idle { pending_of self.new ≡ [] }
+        ensures code { code_in self.new ≡ code_in self.old }
+    {
+        match self.begin_at(sub, function, args, turns) {
             Ok(()) => self.finish(),
             Err(Memory) => Outcome::Memory,
         }
@@ -418,8 +422,10 @@ impl Machine {
     /// trap or a spent run it answers the same again, and does nothing.
     pub fn settle(&mut self) -> Outcome
         requires { pending_of self.old ≡ [] }
-        ensures settled { result ≢ Outcome.Memory → (mach_of self.new ≡ machine.settled (mach_of self.old)) × (result ≡ machine.settle_answer (mach_of self.old)) }
+        ensures settled { mach_of self.new ≡ machine.settled (mach_of self.old) }
+        ensures answer { result ≡ machine.settle_answer (mach_of self.old) }
         ensures after { (mach_of self.old).stopped ≡ Outcome.Memory → result ≡ Outcome.Memory }
+        ensures failed { result ≡ Outcome.Memory → IsFailed (mach_of self.new) }
         ensures idle { pending_of self.new ≡ [] }
         ensures code { code_in self.new ≡ code_in self.old }
     {
@@ -450,6 +456,17 @@ impl Machine {
                 Outcome::Trapped(trap)
             }
         }
+    }
+}
+
+// The frame of a function that is called under a name, before its entry.
+fn frame_of(called: Bytes) -> Frame
+    ensures { result ≡ machine.frame_of called }
+{
+    Frame {
+        called,
+        base: 0,
+        items: 0,
     }
 }
 

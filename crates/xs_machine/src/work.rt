@@ -5,7 +5,7 @@ ghost use Rattle.xs_machine.specs.Machine as machine;
 ghost use Rattle.xs_api.specs.Rows.{counted_rows};
 ghost use Rattle.xs_machine.specs.State as state;
 ghost use Rattle.xs_ccheck.specs.Tree.{Function, tree_count};
-ghost use Rattle.xs_machine.specs.Views.{HasTop, IsShort, Operates, code_in, given_or, mach_of, operands_of, pending_of, state_of, task_of};
+ghost use Rattle.xs_machine.specs.Views.{HasTop, IsShort, Operates, code_in, mach_of, operands_of, pending_of, state_of, task_of};
 
 use crate::machine::{Machine, Outcome, Task};
 use std::alloc::Global;
@@ -153,7 +153,7 @@ fn pop_operand(m: &mut Machine) -> Option<Operand>
 // Goes on with a value, or unwinds.
 fn land(m: &mut Machine, value: Result<Operand, Trap>) -> Result<(), Memory>
     requires { m.old.stopped ≡ Outcome.Returned [] }
-    ensures lands { OnOk result (mach_of m.new ≡ machine.land counted_rows ◌∷◌ (pending_of m.old) (operands_of m.old) (given_or value (state_of m.old))) }
+    ensures lands { OnOk result (mach_of m.new ≡ machine.land counted_rows ◌∷◌ (pending_of m.old) (operands_of m.old) (state.given_or value (state_of m.old))) }
     ensures typed { m.new.typed ≡ m.old.typed }
 {
     match value {

@@ -1,5 +1,5 @@
 -- What stands on a line by the grammar is read as that.
-use Rattle.std.proofs.Common.{◌≡◌, ℕ, zero, suc, ◌+◌, ◌==◌, Bool, true, false, List, [], ◌∷◌, ◌++◌, length, append_assoc, Some, None, refl, ap, ◌∙◌, arith}
+use Rattle.std.proofs.Common.{◌≡◌, ℕ, zero, suc, ◌+◌, ◌==◌, Bool, true, false, List, [], ◌∷◌, ◌++◌, length, append_assoc, refl, ap, ◌∙◌, arith}
 use Rattle.std.specs.Prelude.{pos}
 use Rattle.xs_script.specs.declared.command.Number.TheVariants as num
 use Rattle.xs_script.specs.declared.token.Token.{Token}
@@ -11,43 +11,34 @@ use Rattle.xs_script.specs.Form as f
 use Rattle.xs_script.specs.Form.{Form, Forms, Pairs}
 use Rattle.xs_script.specs.Grammar as g
 use Rattle.xs_script.specs.Grammar.{Stands, Elements, Entries}
-use Rattle.xs_base.specs.Readers.{and_then, head_is, pure}
-use Rattle.xs_script.specs.Input.{Input, Outcome, is_mark, mark_byte, sees, sees_word, next, kind_of, after, after_word, expect, named, opened, part}
+use Rattle.xs_base.specs.Readers.{and_then, head_is}
+use Rattle.xs_script.specs.Input.{Input, is_mark, mark_byte, sees, sees_word, next, kind_of, after, after_word, expect, named, opened, part}
 use Rattle.xs_script.specs.Meaning.{made, made_list, made_pairs}
 use Rattle.xs_script.specs.Numbers.{number_of, argument_of}
-use Rattle.xs_script.specs.Value.{Bracket, InList, InHash, Partial, inside, finished, turns, begin, in_square, in_curly, follow_list, follow_hash, key, simple, by_name, reference, variable, argument, whole_number}
+use Rattle.xs_script.specs.Value.{Bracket, InList, InHash, begins, ends, finished, turns, begin, in_square, in_curly, follow_list, follow_hash, key, keyed, simple, by_name, reference, variable, argument, whole_number}
 use Rattle.xs_script.proofs.Forms.{at, out_of_range, met_form, met_list, met_pairs, steps, steps_list, steps_pairs, ranged_done}
 
-abbrev pub begins : List Bracket → Partial
-begins around = record { around = around; ended = None }
-
-abbrev pub ends : List Bracket → Expr → Partial
-ends around e = record { around = around; ended = Some e }
-
 -- an expression begins with no mark but these
-pub not_first : (m : Mark) → (mark_byte m == 92) ≡ false → (mark_byte m == 91) ≡ false → (mark_byte m == 123) ≡ false → {s : Bool} {e : Form} {ts us : List Token} → Stands s e ts us → head_is (is_mark m) ts ≡ false
+not_first : (m : Mark) → (mark_byte m == 92) ≡ false → (mark_byte m == 91) ≡ false → (mark_byte m == 123) ≡ false → {s : Bool} {e : Form} {ts us : List Token} → Stands s e ts us → head_is (is_mark m) ts ≡ false
 not_first m backslash square curly g.undef = refl
 not_first m backslash square curly g.number = refl
 not_first m backslash square curly g.text = refl
 not_first m backslash square curly (g.variable u) = refl
 not_first m backslash square curly g.reference = backslash
 not_first m backslash square curly g.argument = refl
-not_first m backslash square curly g.no_elements = square
-not_first m backslash square curly (g.elements x) = square
+not_first m backslash square curly (g.array g.nothing_in) = square
+not_first m backslash square curly (g.array (g.elements_in x)) = square
 not_first m backslash square curly g.no_pairs = curly
 not_first m backslash square curly (g.pairs x) = curly
 
-elements_not_square : {s : Bool} {fs : Forms} {ts us : List Token} → Elements s fs ts us → head_is (is_mark mark.CloseSquare) ts ≡ false
-elements_not_square (g.last_element x) = not_first mark.CloseSquare refl refl refl x
-elements_not_square (g.more_elements x y) = not_first mark.CloseSquare refl refl refl x
+-- nor do elements
+pub not_in_front : (m : Mark) → (mark_byte m == 92) ≡ false → (mark_byte m == 91) ≡ false → (mark_byte m == 123) ≡ false → {closing : Mark} {s : Bool} {fs : Forms} {ts us : List Token} → Elements closing s fs ts us → head_is (is_mark m) ts ≡ false
+not_in_front m backslash square curly (g.last_element x) = not_first m backslash square curly x
+not_in_front m backslash square curly (g.more_elements x y) = not_first m backslash square curly x
 
 entries_not_curly : {s : Bool} {ps : Pairs} {ts us : List Token} → Entries s ps ts us → head_is (is_mark mark.CloseCurly) ts ≡ false
 entries_not_curly (g.last_pair x) = refl
 entries_not_curly (g.more_pairs x y) = refl
-
--- a key is read, and its value begins
-abbrev pub keyed : List (List ℕ × Expr) → List Bracket → Input → Outcome Partial
-keyed entries around i = and_then (key i) (λ name. pure (inside (InHash entries name) around))
 
 mutual
   unfolding turns begin simple by_name reference variable argument whole_number in_square in_curly follow_list follow_hash key sees sees_word next kind_of after after_word expect part named opened
@@ -63,14 +54,14 @@ mutual
   form_done (g.reference {n = t} {ts = ts}) (suc m) n e around i = ap (λ k. turns false k (ends around (p.Reference t)) (at ts (named t i))) (omega arith)
   form_done (g.argument {k = t} {ts = ts}) (suc m) n e around i =
       rw (ranged_done (argument_of t) 0 t ts i) (ap (λ k. turns true k (ends around (made 0 (f.Argument t))) (at ts (out_of_range (argument_of t) t i))) (omega arith))
-  form_done (g.no_elements {s = s} {ts = ts}) (suc m) n e around i = ap (λ k. turns s k (finished around (p.ListOf p.NoMore)) (at ts (opened (length around + 1) i))) (omega arith)
-  form_done (g.elements {s = s} {fs = fs} {ts = ts} {us = us} x) (suc m) n e around i =
-      rw (elements_not_square x) (elements_done x m n (omega arith) [] around (opened (length around + 1) i))
+  form_done (g.array (g.nothing_in {s = s} {ts = ts})) (suc m) n e around i = ap (λ k. turns s k (finished around (p.ListOf p.NoMore)) (at ts (opened (length around + 1) i))) (omega arith)
+  form_done (g.array (g.elements_in {s = s} {fs = fs} {ts = ts} {us = us} x)) (suc m) n e around i =
+      rw (not_in_front mark.CloseSquare refl refl refl x) (elements_done x m n (omega arith) [] around (opened (length around + 1) i))
   form_done (g.no_pairs {s = s} {ts = ts}) (suc m) n e around i = ap (λ k. turns s k (finished around (p.HashOf p.NoEntry)) (at ts (opened (length around + 1) i))) (omega arith)
   form_done (g.pairs {s = s} {ps = ps} {ts = ts} {us = us} x) (suc m) n e around i =
       rw (entries_not_curly x) (entries_done x m n (omega arith) [] around (opened (length around + 1) i))
 
-  elements_done : {s : Bool} {fs : Forms} {ts us : List Token} → Elements s fs ts us → (m n : ℕ) → m ≡ n + steps_list fs → (items : List Expr) (around : List Bracket) (i : Input)
+  elements_done : {s : Bool} {fs : Forms} {ts us : List Token} → Elements mark.CloseSquare s fs ts us → (m n : ℕ) → m ≡ n + steps_list fs → (items : List Expr) (around : List Bracket) (i : Input)
       → turns s m (begins (InList items ∷ around)) (at ts i)
       ≡ turns s n (finished around (p.ListOf (exprs_of (items ++ made_list (suc (length around)) fs)))) (at us (met_list (suc (length around)) fs i))
   elements_done (g.last_element x) m n e items around i = form_done x m (suc n) (omega arith) (InList items ∷ around) i

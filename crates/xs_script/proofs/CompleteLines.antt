@@ -1,28 +1,30 @@
 -- A command that stands on a line by the grammar is read as that.
-use Rattle.std.proofs.Common.{◌≡◌, ℕ, zero, suc, ◌+◌, ◌-◌, ◌<◌, ◌≤◌, Bool, true, false, ◌&&◌, List, [], ◌∷◌, ◌++◌, length, map, append_assoc, refl, ap, ◌∙◌, arith, max, Ok}
+use Rattle.std.proofs.Common.{◌≡◌, ℕ, zero, suc, ◌+◌, ◌-◌, ◌<◌, ◌≤◌, Bool, true, false, ◌&&◌, List, [], ◌∷◌, ◌++◌, length, map, append_assoc, refl, ap, ◌∙◌, arith, Ok}
 use Rattle.std.specs.Prelude.{codes}
+use Rattle.std.proofs.Math.Nat.{zero-max}
 use Rattle.std.proofs.lemmas.Bool.{and_right}
 use Rattle.std.specs.Str.{bytes_eq}
 use Rattle.xs_base.specs.declared.place.Line.{Line}
 use Rattle.xs_script.specs.declared.scope.Scope.{Scope}
 use Rattle.xs_script.specs.declared.token.Token.{Token}
 use Rattle.xs_script.specs.declared.token.Token.TheVariants as token
+use Rattle.xs_script.specs.declared.token.Mark.{Mark}
 use Rattle.xs_script.specs.declared.token.Mark.TheVariants as mark
 use Rattle.xs_script.specs.Expr.{Expr, Act}
 use Rattle.xs_script.specs.Form.{Form, Forms, Pairs, Deed, Written}
 use Rattle.xs_script.specs.Grammar as g
-use Rattle.xs_script.specs.Grammar.{Stands, Elements, Entries, NamesSub, SomeArguments, Arguments, Does, AllDo, Command}
+use Rattle.xs_script.specs.Grammar.{Stands, Elements, Entries, NamesSub, Arguments, Does, AllDo, Command}
 use Rattle.xs_base.specs.Readers.{head_is, tail}
-use Rattle.xs_script.specs.Input.{Input, Outcome, is_mark, is_word, kind_at, sees, sees_word, next, kind_of, left, after, after_word, expect, sub_name, named, start_of, met, part, names_sub}
-use Rattle.xs_script.specs.Meaning.{made, made_args, act_of, said_of, contents_of, met_in, judge, IsWritten}
+use Rattle.xs_script.specs.Input.{Input, Outcome, is_word, kind_at, sees, sees_word, next, kind_of, left, after, after_word, expect, sub_name, named, start_of, met, part, names_sub}
+use Rattle.xs_script.specs.Meaning.{made, made_list, act_of, said_of, contents_of, met_in, judge, IsWritten}
 use Rattle.xs_script.specs.Numbers.{argument_of}
-use Rattle.xs_script.specs.Rules.{arguments_from, some_arguments, arguments, set_action, call, action, actions_from, actions, sees_call, my_command, isa_command, sub_command, variable_command, by_word, at_end, command}
+use Rattle.xs_script.specs.Rules.{listed, arguments_from, some_arguments, arguments, set_action, call, action, actions_from, actions, sees_call, my_command, isa_command, sub_command, variable_command, by_word, at_end, command}
 use Rattle.xs_script.specs.Script.{line_of, reading_of, is_skipped}
 use Rattle.xs_script.specs.Value.{value, variable, argument, turns}
-use Rattle.xs_script.proofs.Forms.{at, out_of_range, met_form, met_args, met_deed, met_deeds, steps, steps_list, steps_pairs, ranged_done}
+use Rattle.xs_script.proofs.Forms.{at, out_of_range, met_form, met_list, met_deed, met_deeds, steps, steps_list, steps_pairs, ranged_done}
 use Rattle.xs_script.proofs.Marks.{met_written, written_marks}
 use Rattle.xs_script.proofs.SpelledDone.{spelled_done}
-use Rattle.xs_script.proofs.Complete.{form_done, not_first}
+use Rattle.xs_script.proofs.Complete.{form_done, not_in_front}
 
 mutual
   pub form_shrinks : {s : Bool} {e : Form} {ts us : List Token} → Stands s e ts us → steps e + length us ≤ length ts
@@ -32,12 +34,12 @@ mutual
   form_shrinks (g.variable u) = omega arith
   form_shrinks g.reference = omega arith
   form_shrinks g.argument = omega arith
-  form_shrinks g.no_elements = omega arith
-  form_shrinks (g.elements x) = omega (arith, elements_shrink x)
+  form_shrinks (g.array g.nothing_in) = omega arith
+  form_shrinks (g.array (g.elements_in x)) = omega (arith, elements_shrink x)
   form_shrinks g.no_pairs = omega arith
   form_shrinks (g.pairs x) = omega (arith, entries_shrink x)
 
-  elements_shrink : {s : Bool} {fs : Forms} {ts us : List Token} → Elements s fs ts us → steps_list fs + length us ≤ length ts
+  elements_shrink : {closing : Mark} {s : Bool} {fs : Forms} {ts us : List Token} → Elements closing s fs ts us → steps_list fs + length us ≤ length ts
   elements_shrink (g.last_element x) = omega (arith, form_shrinks x)
   elements_shrink (g.more_elements x y) = omega (arith, form_shrinks x, elements_shrink y)
 
@@ -50,31 +52,27 @@ pub value_done : {s : Bool} {e : Form} {ts us : List Token} → Stands s e ts us
 unfolding value left turns
 value_done {s} {e} {ts} {us} x i = form_done x (length ts + 1) (suc (length ts - steps e)) (omega (arith, form_shrinks x)) [] i
 
-some_not_round : {s : Bool} {es : List Form} {ts us : List Token} → SomeArguments s es ts us → head_is (is_mark mark.CloseRound) ts ≡ false
-some_not_round (g.last_argument x) = not_first mark.CloseRound refl refl refl x
-some_not_round (g.more_arguments x y) = not_first mark.CloseRound refl refl refl x
+some_shrink : {closing : Mark} {s : Bool} {es : Forms} {ts us : List Token} → Elements closing s es ts us → length us < length ts
+some_shrink (g.last_element x) = omega (arith, form_shrinks x)
+some_shrink (g.more_elements x y) = omega (arith, form_shrinks x, elements_shrink y)
 
-some_shrink : {s : Bool} {es : List Form} {ts us : List Token} → SomeArguments s es ts us → length us < length ts
-some_shrink (g.last_argument x) = omega (arith, form_shrinks x)
-some_shrink (g.more_arguments x y) = omega (arith, form_shrinks x, some_shrink y)
-
-some_done : {s : Bool} {es : List Form} {ts us : List Token} → SomeArguments s es ts us → (n : ℕ) → length ts ≤ n → (all : List Expr) (i : Input)
-    → arguments_from s n all (at ts i) ≡ Ok (all ++ made_args es, at us (met_args es i))
-unfolding arguments_from sees next after expect
+some_done : {s : Bool} {es : Forms} {ts us : List Token} → Elements mark.CloseRound s es ts us → (n : ℕ) → length ts ≤ n → (all : List Expr) (i : Input)
+    → arguments_from s n all (at ts i) ≡ Ok (all ++ made_list 0 es, at us (met_list 0 es i))
+unfolding listed sees next after expect
 some_done x zero few all i = absurd (omega (arith, some_shrink x))
-some_done (g.last_argument x) (suc n) few all i = rw (value_done x i) refl
-some_done (g.more_arguments {e = e} {es = es} {us = us} {vs = vs} x y) (suc n) few all i =
+some_done (g.last_element x) (suc n) few all i = rw (value_done x i) refl
+some_done (g.more_elements {e = e} {fs = es} {us = us} {vs = vs} x y) (suc n) few all i =
     rw (value_done x i) (some_done y n (omega (arith, form_shrinks x)) (all ++ made 0 e ∷ []) (met_form 0 e i)
-    ∙ ap (λ (l : List Expr). let o : Outcome (List Expr) = Ok (l, at vs (met_args es (met_form 0 e i))) in o) (append_assoc all (made 0 e ∷ []) (made_args es)))
+    ∙ ap (λ (l : List Expr). let o : Outcome (List Expr) = Ok (l, at vs (met_list 0 es (met_form 0 e i))) in o) (append_assoc all (made 0 e ∷ []) (made_list 0 es)))
 
-arguments_done : {s : Bool} {es : List Form} {ts us : List Token} → Arguments s es ts us → (i : Input) → arguments s (at ts i) ≡ Ok (made_args es, at us (met_args es i))
+arguments_done : {s : Bool} {es : Forms} {ts us : List Token} → Arguments s es ts us → (i : Input) → arguments s (at ts i) ≡ Ok (made_list 0 es, at us (met_list 0 es i))
 unfolding arguments some_arguments sees next after expect left
-arguments_done g.no_arguments i = refl
-arguments_done (g.some_arguments {ts = ts} x) i = rw (some_not_round x) (some_done x (length ts) (omega arith) [] i)
+arguments_done g.nothing_in i = refl
+arguments_done (g.elements_in {ts = ts} x) i = rw (not_in_front mark.CloseRound refl refl refl x) (some_done x (length ts) (omega arith) [] i)
 
-arguments_shrink : {s : Bool} {es : List Form} {ts us : List Token} → Arguments s es ts us → length us < length ts
-arguments_shrink g.no_arguments = omega arith
-arguments_shrink (g.some_arguments x) = omega (arith, some_shrink x)
+arguments_shrink : {s : Bool} {es : Forms} {ts us : List Token} → Arguments s es ts us → length us < length ts
+arguments_shrink g.nothing_in = omega arith
+arguments_shrink (g.elements_in x) = omega (arith, some_shrink x)
 
 sub_done : {n : List ℕ} {t : Token} → NamesSub n t → (ts : List Token) (i : Input) → sub_name (at (t ∷ ts) i) ≡ Ok (n, at ts i)
 unfolding sub_name part kind_of next
@@ -99,7 +97,7 @@ deed_shrinks (g.call nm x) = omega (arith, arguments_shrink x)
 deed_shrinks g.die = omega arith
 
 deeds_done : {ds : List Deed} {ts : List Token} → AllDo ds ts → (n : ℕ) → length ts ≤ n → (all : List Act) (i : Input) → actions_from n all (at ts i) ≡ Ok (all ++ map act_of ds, at [] (met_deeds ds i))
-unfolding actions_from sees next after
+unfolding listed sees next after
 deeds_done (g.last_deed x) zero few all i = absurd (omega (arith, deed_shrinks x))
 deeds_done (g.more_deeds x y) zero few all i = absurd (omega (arith, deed_shrinks x))
 deeds_done (g.last_deed x) (suc n) few all i = rw (deed_done x i) refl
@@ -115,8 +113,8 @@ no_call g.text h = refl
 no_call (g.variable {n = n} {ts = us} u) h = and_right (bytes_eq n (codes "call")) (names_sub (kind_at us)) h
 no_call g.reference h = refl
 no_call g.argument h = refl
-no_call g.no_elements h = refl
-no_call (g.elements x) h = refl
+no_call (g.array g.nothing_in) h = refl
+no_call (g.array (g.elements_in x)) h = refl
 no_call g.no_pairs h = refl
 no_call (g.pairs x) h = refl
 
@@ -131,11 +129,8 @@ command_done g.drop line i = refl
 command_done g.isa line i = refl
 command_done (g.sub {ts = ts} nm x) line i = rw (sub_done nm (token.Mark mark.Equals ∷ ts) i, deeds_done x (length ts) (omega arith) [] i) refl
 
-none_max : (r : ℕ) → max 0 r ≡ r
-none_max r = omega arith
-
 met_done : (c : Written) (scope : Scope) (ts : List Token) → met (at [] (met_written c (start_of scope ts))) ≡ met_in scope c
-met_done c scope ts = rw (written_marks c (start_of scope ts), none_max (contents_of c).reach) refl
+met_done c scope ts = rw (written_marks c (start_of scope ts), zero-max (contents_of c).reach) refl
 
 pub reading_done : (scope : Scope) (line : Line) (c : Written) (w : IsWritten c line.text) → reading_of scope line ≡ Ok (said_of line.number c, at [] (met_written c (start_of scope w.0)))
 unfolding reading_of

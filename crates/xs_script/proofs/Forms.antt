@@ -39,13 +39,10 @@ abbrev pub met_all : {X : Type 0} → (X → Input → Input) → List X → Inp
 met_all met [] i = i
 met_all met (x ∷ xs) i = met_all met xs (met x i)
 
-abbrev pub met_args : List Form → Input → Input
-met_args es i = met_all (met_form 0) es i
-
 abbrev pub met_deed : Deed → Input → Input
 met_deed (f.Push e) i = met_form 0 e i
 met_deed (f.Set k e) i = met_form 0 e (out_of_range (argument_of k) k i)
-met_deed (f.Call n es) i = met_args es i
+met_deed (f.Call n es) i = met_list 0 es i
 met_deed (f.Die content) i = i
 
 abbrev pub met_deeds : List Deed → Input → Input

@@ -9,9 +9,9 @@ use Rattle.xs_base.proofs.FrontRuns.{front_behind}
 use Rattle.xs_script.specs.declared.token.Token.{Token}
 use Rattle.xs_script.specs.declared.token.Front.TheVariants as front
 use Rattle.xs_script.specs.Lex.{first_part, tokens_from}
-use Rattle.xs_script.specs.Fronts.{with_front}
-use Rattle.xs_script.specs.Input.{NoReading}
-use Rattle.xs_script.proofs.Fronts.{with_front-with_front}
+use Rattle.xs_base.specs.Reading.{with_front}
+use Rattle.xs_script.specs.Telling.{NoReading}
+use Rattle.xs_base.proofs.Collecting.{with_front-with_front}
 
 -- bytes that belong to the part before
 pub tokens_from-skip : (skip : ℕ) (bytes : List ℕ) → tokens_from skip bytes ≡ tokens_from 0 (drop skip bytes)

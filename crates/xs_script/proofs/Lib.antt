@@ -1,10 +1,8 @@
-pub mod Fronts
 pub mod LexSteps
 pub mod SpelledDone
 pub mod SpelledSound
 pub mod Views
 pub mod Arounds
-pub mod Turns
 pub mod Lines
 pub mod Forms
 pub mod Complete

@@ -5,14 +5,12 @@ use Rattle.std.proofs.Math.Seq.{drop-cons}
 use Rattle.std.proofs.Math.ListN.{drop_of_length-le}
 use Rattle.xs_base.specs.declared.fault.Fault.{Fault}
 use Rattle.xs_base.specs.declared.fault.Refuse.{Refuse}
-use Rattle.xs_base.specs.declared.fault.Refuse.TheVariants as refuse
 use Rattle.xs_base.specs.declared.place.Line.{Line}
-use Rattle.xs_base.specs.Reading.{Fails, ◌>>=◌}
+use Rattle.xs_base.specs.Reading.{Fails, ◌>>=◌, with_front}
 use Rattle.xs_script.specs.declared.scope.Scope.{Scope}
 use Rattle.xs_script.specs.Expr.{Said}
-use Rattle.xs_script.specs.Fronts.{with_front}
 use Rattle.xs_script.specs.Script.{line_of, commands_from, go_on, behind}
-use Rattle.xs_script.proofs.Fronts.{with_front-with_front}
+use Rattle.xs_base.proofs.Collecting.{fails_then, with_front-with_front}
 
 commands_from-drop : (lines : List Line) (i : ℕ) (d : Line) (scope : Scope) → i < length lines
     → commands_from (drop i lines) scope ≡ (line_of scope (get_or lines i d) >>= λ said. go_on said scope (commands_from (drop (i + 1) lines)))
@@ -30,14 +28,10 @@ pub no_command : (before : List Said) (lines : List Line) (i : ℕ) (d : Line) (
     → with_front before (commands_from (drop i lines) scope) ≡ with_front before (commands_from (drop (i + 1) lines) scope)
 no_command before lines i d scope h e = rw (commands_from-drop lines i d scope h, e) refl
 
-fails_before : {A : Type 0} (e : Refuse) (before : List Said) (r : Result A Fault) (next : A → Result (List Said) Fault) → Fails e r → Fails e (with_front before (r >>= next))
-fails_before refuse.Memory before r next h = tt
-fails_before (refuse.Fault f) before r next h = rw h refl
-
 pub line_fails : (e : Refuse) (before : List Said) (lines : List Line) (i : ℕ) (d : Line) (scope : Scope) → i < length lines → Fails e (line_of scope (get_or lines i d))
     → Fails e (with_front before (commands_from (drop i lines) scope))
 line_fails e before lines i d scope h fails =
-    rw (commands_from-drop lines i d scope h) (fails_before e before (line_of scope (get_or lines i d)) (λ said. go_on said scope (commands_from (drop (i + 1) lines))) fails)
+    rw (commands_from-drop lines i d scope h) (fails_then e before (line_of scope (get_or lines i d)) (λ said. go_on said scope (commands_from (drop (i + 1) lines))) fails)
 
 pub all_lines : (before : List Said) (lines : List Line) (i : ℕ) (scope : Scope) → length lines ≤ i → with_front before (commands_from (drop i lines) scope) ≡ Ok before
 unfolding commands_from

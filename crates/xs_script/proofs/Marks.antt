@@ -1,66 +1,57 @@
 -- What was met is what is at fault in the command that was read.
-use Rattle.std.proofs.Common.{◌≡◌, ℕ, suc, ◌+◌, Bool, true, false, max, List, [], ◌∷◌, ◌++◌, Option, Some, None, refl, ap, sym, ◌∙◌, arith, if◌then◌else◌}
-use Rattle.xs_script.specs.declared.scope.Scope.{Scope}
+use Rattle.std.proofs.Common.{◌≡◌, ℕ, suc, ◌+◌, max, List, [], ◌∷◌, ◌++◌, Option, Some, None, refl, ap, sym, ◌∙◌}
+use Rattle.std.specs.List.{slice_get}
+use Rattle.std.specs.Option.{option_or}
+use Rattle.std.specs.Prelude.{not}
+use Rattle.std.proofs.Math.Nat.{max-zero}
+use Rattle.std.proofs.lemmas.List.Folds.{find-append}
+use Rattle.xs_base.proofs.Greatest.{max_assoc}
 use Rattle.xs_script.specs.Form as f
 use Rattle.xs_script.specs.Form.{Form, Forms, Pairs, Deed, Written}
-use Rattle.xs_script.specs.Input.{Input, or_else, named, exceeded, opened}
-use Rattle.xs_script.specs.Meaning.{Contents, nothing, one_variable, one_number, brackets, both, in_all, contents, contents_list, contents_pairs, contents_args, contents_deed, contents_of, first_unknown, first}
+use Rattle.xs_script.specs.Input.{Input, named, exceeded, opened}
+use Rattle.xs_script.specs.Meaning.{Contents, nothing, one_variable, one_number, brackets, both, in_all, contents, contents_list, contents_pairs, contents_deed, contents_of}
 use Rattle.xs_script.specs.Numbers.{number_of, argument_of}
-use Rattle.xs_script.specs.Scope.{is_alive}
-use Rattle.xs_script.proofs.Forms.{out_of_range, met_form, met_list, met_pairs, met_all, met_args, met_deed, met_deeds}
+use Rattle.xs_script.specs.Scope.{first_unknown, is_alive}
+use Rattle.xs_script.proofs.Forms.{out_of_range, met_form, met_list, met_pairs, met_all, met_deed, met_deeds}
 
 -- an input behind parts with these contents
 abbrev pub marked : Contents → Input → Input
-marked c i = record i { unknown = or_else i.unknown (first_unknown i.scope c.variables); beyond = or_else i.beyond (first c.excess); deepest = max i.deepest c.reach }
+marked c i = record i { unknown = option_or i.unknown (first_unknown i.scope c.variables); beyond = option_or i.beyond (slice_get c.excess 0); deepest = max i.deepest c.reach }
 
-or_else_none : (a : Option (List ℕ)) → or_else a None ≡ a
-or_else_none (Some x) = refl
-or_else_none None = refl
+or_none : (a : Option (List ℕ)) → option_or a None ≡ a
+or_none (Some x) = refl
+or_none None = refl
 
-or_else_assoc : (a b c : Option (List ℕ)) → or_else (or_else a b) c ≡ or_else a (or_else b c)
-or_else_assoc (Some x) b c = refl
-or_else_assoc None b c = refl
+or_assoc : (a b c : Option (List ℕ)) → option_or (option_or a b) c ≡ option_or a (option_or b c)
+or_assoc (Some x) b c = refl
+or_assoc None b c = refl
 
-first-append : (xs ys : List (List ℕ)) → first (xs ++ ys) ≡ or_else (first xs) (first ys)
+first-append : (xs ys : List (List ℕ)) → slice_get (xs ++ ys) 0 ≡ option_or (slice_get xs 0) (slice_get ys 0)
 first-append [] ys = refl
 first-append (x ∷ xs) ys = refl
 
-first_unknown-append : (scope : Scope) (xs ys : List (List ℕ)) → first_unknown scope (xs ++ ys) ≡ or_else (first_unknown scope xs) (first_unknown scope ys)
-first_unknown-append scope [] ys = refl
-first_unknown-append scope (x ∷ xs) ys = by_test (first_unknown-append scope xs ys) (is_alive scope x)
-  where
-    by_test : first_unknown scope (xs ++ ys) ≡ or_else (first_unknown scope xs) (first_unknown scope ys) → (b : Bool) → (if b then first_unknown scope (xs ++ ys) else Some x) ≡ or_else (if b then first_unknown scope xs else Some x) (first_unknown scope ys)
-    by_test again true = again
-    by_test again false = refl
-
-max_none : (r : ℕ) → max r 0 ≡ r
-max_none r = omega arith
-
-max_assoc : (a b c : ℕ) → max (max a b) c ≡ max a (max b c)
-max_assoc a b c = omega arith
-
 marked-none : (i : Input) → marked nothing i ≡ i
-marked-none i = rw (or_else_none i.unknown, or_else_none i.beyond, max_none i.deepest) refl
+marked-none i = rw (or_none i.unknown, or_none i.beyond, max-zero i.deepest) refl
 
 marked-marked : (a b : Contents) (i : Input) → marked b (marked a i) ≡ marked (both a b) i
 marked-marked a b i =
-    rw (first_unknown-append i.scope a.variables b.variables, first-append a.excess b.excess, or_else_assoc i.unknown (first_unknown i.scope a.variables) (first_unknown i.scope b.variables), or_else_assoc i.beyond (first a.excess) (first b.excess), max_assoc i.deepest a.reach b.reach) refl
+    rw (find-append (λ n. not (is_alive i.scope n)) a.variables b.variables, first-append a.excess b.excess, or_assoc i.unknown (first_unknown i.scope a.variables) (first_unknown i.scope b.variables), or_assoc i.beyond (slice_get a.excess 0) (slice_get b.excess 0), max_assoc i.deepest a.reach b.reach) refl
 
 behind : (a b : Contents) (i : Input) {j k : Input} → j ≡ marked a i → k ≡ marked b j → k ≡ marked (both a b) i
 behind a b i e e' = e' ∙ ap (marked b) e ∙ marked-marked a b i
 
 named_marks : (n : List ℕ) (i : Input) → named n i ≡ marked (one_variable n) i
 unfolding named
-named_marks n i = rw (or_else_none i.beyond, max_none i.deepest) refl
+named_marks n i = rw (or_none i.beyond, max-zero i.deepest) refl
 
 range_marks : {A : Type 0} (o : Option A) (text : List ℕ) (i : Input) → out_of_range o text i ≡ marked (one_number o text) i
 unfolding exceeded
 range_marks (Some a) text i = sym (marked-none i)
-range_marks None text i = rw (or_else_none i.unknown, max_none i.deepest) refl
+range_marks None text i = rw (or_none i.unknown, max-zero i.deepest) refl
 
 opened_marks : (d : ℕ) (i : Input) → opened d i ≡ marked (brackets d) i
 unfolding opened
-opened_marks d i = rw (or_else_none i.unknown, or_else_none i.beyond) refl
+opened_marks d i = rw (or_none i.unknown, or_none i.beyond) refl
 
 mutual
   form_marks : (d : ℕ) (e : Form) (i : Input) → met_form d e i ≡ marked (contents d e) i
@@ -85,20 +76,17 @@ all_marks : {X : Type 0} (met : X → Input → Input) (has : X → Contents) �
 all_marks met has one [] i = sym (marked-none i)
 all_marks met has one (x ∷ xs) i = behind (has x) (in_all has xs) i (one x i) (all_marks met has one xs (met x i))
 
-args_marks : (es : List Form) (i : Input) → met_args es i ≡ marked (contents_args es) i
-args_marks = all_marks (met_form 0) (contents 0) (form_marks 0)
-
 deed_marks : (d : Deed) (i : Input) → met_deed d i ≡ marked (contents_deed d) i
 deed_marks (f.Push e) i = form_marks 0 e i
 deed_marks (f.Set k e) i = behind (one_number (argument_of k) k) (contents 0 e) i (range_marks (argument_of k) k i) (form_marks 0 e (out_of_range (argument_of k) k i))
-deed_marks (f.Call n es) i = args_marks es i
+deed_marks (f.Call n es) i = list_marks 0 es i
 deed_marks (f.Die content) i = sym (marked-none i)
 
 abbrev pub met_written : Written → Input → Input
 met_written (f.My n e) i = met_form 0 e i
-met_written (f.MyCall n m es) i = met_args es i
+met_written (f.MyCall n m es) i = met_list 0 es i
 met_written (f.Ro n) i = named n i
-met_written (f.CallSub n es) i = met_args es i
+met_written (f.CallSub n es) i = met_list 0 es i
 met_written (f.Show n) i = named n i
 met_written (f.Drop n) i = named n i
 met_written (f.Isa n m) i = i
@@ -106,9 +94,9 @@ met_written (f.Sub n ds) i = met_deeds ds i
 
 pub written_marks : (c : Written) (i : Input) → met_written c i ≡ marked (contents_of c) i
 written_marks (f.My n e) i = form_marks 0 e i
-written_marks (f.MyCall n m es) i = args_marks es i
+written_marks (f.MyCall n m es) i = list_marks 0 es i
 written_marks (f.Ro n) i = named_marks n i
-written_marks (f.CallSub n es) i = args_marks es i
+written_marks (f.CallSub n es) i = list_marks 0 es i
 written_marks (f.Show n) i = named_marks n i
 written_marks (f.Drop n) i = named_marks n i
 written_marks (f.Isa n m) i = sym (marked-none i)

@@ -13,8 +13,9 @@ use Rattle.xs_script.specs.declared.scope.Scope.{Scope}
 use Rattle.xs_script.specs.declared.token.Token.{Token}
 use Rattle.xs_script.specs.Expr.{Said}
 use Rattle.xs_script.specs.Form.{Written}
-use Rattle.xs_script.specs.Input.{Input, NoReading, Outcome, start_of}
-use Rattle.xs_script.specs.Fronts.{with_front}
+use Rattle.xs_script.specs.Input.{Input, Outcome, start_of}
+use Rattle.xs_script.specs.Telling.{NoReading}
+use Rattle.xs_base.specs.Reading.{with_front}
 use Rattle.xs_script.specs.Lex.{tokens_of}
 use Rattle.xs_script.specs.Meaning as m
 use Rattle.xs_script.specs.Meaning.{IsWritten, LineMeans, LinesMean, Means, judge}

@@ -1,5 +1,5 @@
 -- What is read as an expression stands there by the grammar.
-use Rattle.std.proofs.Common.{◌≡◌, ℕ, ◌==◌, Bool, true, false, List, [], ◌∷◌, Option, Some, None, refl, ap, sym, ◌∙◌, subst, if◌then◌else◌, Ok, Err}
+use Rattle.std.proofs.Common.{◌≡◌, ℕ, ◌==◌, Bool, true, false, List, [], ◌∷◌, Option, Some, None, refl, ap, sym, ◌∙◌, subst, if◌then◌else◌, Ok}
 use Rattle.std.specs.Prelude.{codes, unwrap_or}
 use Rattle.std.specs.Str.{bytes_eq}
 use Rattle.std.proofs.lemmas.Bool.{eqb-true}
@@ -17,24 +17,12 @@ use Rattle.xs_script.specs.Form as f
 use Rattle.xs_script.specs.Form.{Form}
 use Rattle.xs_script.specs.Grammar as g
 use Rattle.xs_script.specs.Grammar.{Stands, NamesSub}
-use Rattle.xs_base.specs.Readers.{and_then, head_is, tail, pure, ◌>>=◌, ◌>>◌, ◌<$>◌}
-use Rattle.xs_script.specs.Input.{Input, Outcome, Reader, is_mark, is_word, mark_byte, sees, sees_word, next, kind_of, after_word, expect, sub_name, taken, named, exceeded, noted, refuse, part, bytes_in, bytes_at, names_sub}
+use Rattle.xs_base.proofs.ReaderSteps.{same_outcome, bind_ok, map_ok}
+use Rattle.xs_base.specs.Readers.{head_is, tail, pure, ◌>>=◌, ◌>>◌, ◌<$>◌}
+use Rattle.xs_script.specs.Input.{Input, is_mark, is_word, mark_byte, sees, sees_word, next, kind_of, after_word, expect, sub_name, taken, named, exceeded, noted, refuse, part, bytes_in, bytes_at, names_sub}
 use Rattle.xs_script.specs.Lex.{single}
 use Rattle.xs_script.specs.Numbers.{number_of, argument_of}
 use Rattle.xs_script.specs.Value.{simple, simple_by, by_name, reference, variable, argument, whole_number, ranged}
-
-pub same_read : {A : Type 0} (a b : A) (i k : Input) → ◌≡◌ {A = Outcome A} (Ok (a, i)) (Ok (b, k)) → (a ≡ b) × (i ≡ k)
-same_read {A} a b i k h = let e : ◌≡◌ {A = A × Input} (a, i) (b, k) = cc in (ap (λ (q : A × Input). q.0) e, ap (λ (q : A × Input). q.1) e)
-
-pub bind_ok : {A B : Type 0} (r : Outcome A) (next : A → Reader B) (b : B × Input) → and_then r next ≡ Ok b → (a : A) × (j : Input) × (r ≡ Ok (a, j)) × (next a j ≡ Ok b)
-bind_ok (Ok q) next b h = (q.0, q.1, refl, h)
-bind_ok (Err e) next b h = absurd cc
-
-pub map_ok : {A B : Type 0} (h : A → B) (r : Outcome A) (b : B) (k : Input) → and_then r (λ x. pure (h x)) ≡ Ok (b, k) → (a : A) × (r ≡ Ok (a, k)) × (b ≡ h a)
-map_ok {A} {B} h (Ok q) b k e =
-    let s = same_read (h q.0) b q.1 k e in
-    (q.0, ap (λ (j : Input). let r : Outcome A = Ok (q.0, j) in r) s.1, sym s.0)
-map_ok h (Err f) b k e = absurd cc
 
 -- ---- one part
 
@@ -80,6 +68,10 @@ pub word_sound : (w : List ℕ) (i : Input) → sees_word w i ≡ true → i.res
 unfolding sees_word
 word_sound w i h = at_word w i.rest h
 
+-- what is told of parts is told of them written otherwise
+pub same_parts : (P : List Token → Type 0) (ts ts' : List Token) → ts ≡ ts' → P ts' → P ts
+same_parts P ts ts' eq x = subst P (sym eq) x
+
 pub behind : (t : Token) (ts us : List Token) → ts ≡ t ∷ tail ts → tail ts ≡ us → ts ≡ t ∷ us
 behind t ts us e e' = e ∙ ap (λ (l : List Token). t ∷ l) e'
 
@@ -91,7 +83,7 @@ unfolding expect next
 expect_sound m i j u h = by_sees (sees m i) refl h
   where
     by_sees : (b : Bool) → sees m i ≡ b → (if b then Ok (tt, next i) else refuse i) ≡ Ok (u, j) → i.rest ≡ token.Mark m ∷ j.rest
-    by_sees true e h = behind (token.Mark m) i.rest j.rest (sees_sound m i e) (rest_of (next i) j (same_read tt u (next i) j h).1)
+    by_sees true e h = behind (token.Mark m) i.rest j.rest (sees_sound m i e) (rest_of (next i) j (same_outcome tt u (next i) j h).1)
     by_sees false e h = absurd cc
 
 -- the part of this kind with these bytes
@@ -125,7 +117,7 @@ part_rest k (t ∷ ts) i j n h = by_bytes (bytes_in k t) refl h
     by_bytes : (o : Option (List ℕ)) → bytes_in k t ≡ o → taken o i ≡ Ok (n, j) → (t ∷ ts ≡ part_of k n ∷ ts) × (next i ≡ j)
     by_bytes None e h = absurd cc
     by_bytes (Some m) e h =
-        let s = same_read m n (next i) j h in
+        let s = same_outcome m n (next i) j h in
         (ap (λ (q : Token). q ∷ ts) (bytes_from k t n (e ∙ ap (λ (q : List ℕ). Some q) s.0)), s.1)
 
 part_sound : (k : Kind) (i j : Input) (n : List ℕ) → part k i ≡ Ok (n, j) → i.rest ≡ part_of k n ∷ j.rest
@@ -156,14 +148,14 @@ sub_sound i j n h = by_kind (kind_of i) h
 
 ranged_sound : {A : Type 0} (o : Option A) (stand_in a : A) (digits : List ℕ) (i j : Input) → ranged o stand_in digits i ≡ Ok (a, j) → i.rest ≡ j.rest
 unfolding exceeded
-ranged_sound (Some x) stand_in a digits i j h = rest_of i j (same_read x a i j h).1
-ranged_sound None stand_in a digits i j h = rest_of (exceeded digits i) j (same_read stand_in a (exceeded digits i) j h).1
+ranged_sound (Some x) stand_in a digits i j h = rest_of i j (same_outcome x a i j h).1
+ranged_sound None stand_in a digits i j h = rest_of (exceeded digits i) j (same_outcome stand_in a (exceeded digits i) j h).1
 
 pub variable_sound : (i j : Input) (n : List ℕ) → variable i ≡ Ok (n, j) → i.rest ≡ token.Name n ∷ j.rest
 unfolding variable named
 variable_sound i j n h =
     let q = bind_ok (part kind.Name i) (λ m. noted (named m) >> pure m) (n, j) h in
-    let s = same_read q.0 n (named q.0 q.1) j q.3 in
+    let s = same_outcome q.0 n (named q.0 q.1) j q.3 in
     name_sound i q.1 q.0 q.2 ∙ ap (λ (m : List ℕ). token.Name m ∷ q.1.rest) s.0 ∙ ap (λ (l : List Token). token.Name n ∷ l) (rest_of (named q.0 q.1) j s.1)
 
 whole_number_sound : (i j : Input) (n : Number) → whole_number i ≡ Ok (n, j) → (t : List ℕ) × (i.rest ≡ token.Number t ∷ j.rest)
@@ -190,9 +182,6 @@ argument_sound i j k h = by_arg (sees_word (codes "arg") i) refl h
 abbrev pub Standing : Bool → Input → Input → Type 0
 Standing s i j = (e : Form) × Stands s e i.rest j.rest
 
-pub stands_at : (s : Bool) (e : Form) (ts ts' us : List Token) → ts ≡ ts' → Stands s e ts' us → Stands s e ts us
-stands_at s e ts ts' us eq x = subst (λ (l : List Token). Stands s e l us) (sym eq) x
-
 by_name_sound : (s : Bool) (i j : Input) (v : Expr) → by_name s i ≡ Ok (v, j) → Standing s i j
 unfolding by_name after_word next sees_word
 by_name_sound s i j v h = by_undef (sees_word (codes "undef") i) refl h
@@ -201,17 +190,17 @@ by_name_sound s i j v h = by_undef (sees_word (codes "undef") i) refl h
     by_place true e h =
         let q = map_ok p.Argument (argument i) v j h in
         let a = argument_sound i j q.0 q.1 in
-        (f.Argument a.0, stands_at true (f.Argument a.0) i.rest (token.Name (codes "arg") ∷ token.Number a.0 ∷ j.rest) j.rest a.1 g.argument)
+        (f.Argument a.0, same_parts (λ (l : List Token). Stands true (f.Argument a.0) l j.rest) i.rest (token.Name (codes "arg") ∷ token.Number a.0 ∷ j.rest) a.1 g.argument)
     by_place false e h =
         let q = map_ok p.Variable (variable i) v j h in
         let r = variable_sound i j q.0 q.1 in
         let u : bytes_eq q.0 (codes "undef") ≡ false = rw r at e in
-        (f.Variable q.0, stands_at false (f.Variable q.0) i.rest (token.Name q.0 ∷ j.rest) j.rest r (g.variable u))
+        (f.Variable q.0, same_parts (λ (l : List Token). Stands false (f.Variable q.0) l j.rest) i.rest (token.Name q.0 ∷ j.rest) r (g.variable u))
 
     by_undef : (b : Bool) → sees_word (codes "undef") i ≡ b → (if b then pure p.Undef else (if s then p.Argument <$> argument else p.Variable <$> variable)) (if b then next i else i) ≡ Ok (v, j) → Standing s i j
     by_undef true e h =
-        let r = behind (token.Name (codes "undef")) i.rest j.rest (word_sound (codes "undef") i e) (rest_of (next i) j (same_read p.Undef v (next i) j h).1) in
-        (f.Undef, stands_at s f.Undef i.rest (token.Name (codes "undef") ∷ j.rest) j.rest r g.undef)
+        let r = behind (token.Name (codes "undef")) i.rest j.rest (word_sound (codes "undef") i e) (rest_of (next i) j (same_outcome p.Undef v (next i) j h).1) in
+        (f.Undef, same_parts (λ (l : List Token). Stands s f.Undef l j.rest) i.rest (token.Name (codes "undef") ∷ j.rest) r g.undef)
     by_undef false e h = by_place s e h
 
 reference_sound : (s : Bool) (i j : Input) (v : Expr) → reference s i ≡ Ok (v, j) → Standing s i j
@@ -221,7 +210,7 @@ reference_sound false i j v h =
     let q = bind_ok (expect mark.Backslash i) (λ _. p.Reference <$> variable) (v, j) h in
     let q' = map_ok p.Reference (variable q.1) v j q.3 in
     let r = expect_sound mark.Backslash i q.1 q.0 q.2 ∙ ap (λ (l : List Token). token.Mark mark.Backslash ∷ l) (variable_sound q.1 j q'.0 q'.1) in
-    (f.Reference q'.0, stands_at false (f.Reference q'.0) i.rest (token.Mark mark.Backslash ∷ token.Name q'.0 ∷ j.rest) j.rest r g.reference)
+    (f.Reference q'.0, same_parts (λ (l : List Token). Stands false (f.Reference q'.0) l j.rest) i.rest (token.Mark mark.Backslash ∷ token.Name q'.0 ∷ j.rest) r g.reference)
 
 pub simple_sound : (s : Bool) (i j : Input) (v : Expr) → simple s i ≡ Ok (v, j) → Standing s i j
 unfolding simple
@@ -232,9 +221,9 @@ simple_sound s i j v h = by_kind (kind_of i) h
     by_kind kind.Number h =
         let q = map_ok p.Num (whole_number i) v j h in
         let r = whole_number_sound i j q.0 q.1 in
-        (f.Number r.0, stands_at s (f.Number r.0) i.rest (token.Number r.0 ∷ j.rest) j.rest r.1 g.number)
+        (f.Number r.0, same_parts (λ (l : List Token). Stands s (f.Number r.0) l j.rest) i.rest (token.Number r.0 ∷ j.rest) r.1 g.number)
     by_kind kind.Text h =
         let q = map_ok p.Text (part kind.Text i) v j h in
-        (f.Text q.0, stands_at s (f.Text q.0) i.rest (token.Text q.0 ∷ j.rest) j.rest (text_sound i j q.0 q.1) g.text)
+        (f.Text q.0, same_parts (λ (l : List Token). Stands s (f.Text q.0) l j.rest) i.rest (token.Text q.0 ∷ j.rest) (text_sound i j q.0 q.1) g.text)
     by_kind kind.Mark h = reference_sound s i j v h
     by_kind kind.End h = absurd cc

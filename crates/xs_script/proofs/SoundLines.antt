@@ -4,19 +4,21 @@ use Rattle.std.specs.Prelude.{codes}
 use Rattle.std.proofs.lemmas.Bool.{and_parts}
 use Rattle.xs_script.specs.declared.token.Token.{Token}
 use Rattle.xs_script.specs.declared.token.Token.TheVariants as token
+use Rattle.xs_script.specs.declared.token.Mark.{Mark}
 use Rattle.xs_script.specs.declared.token.Mark.TheVariants as mark
 use Rattle.xs_script.specs.declared.token.Kind.TheVariants as kind
 use Rattle.xs_script.specs.Expr as p
 use Rattle.xs_script.specs.Expr.{Expr, Act, Said}
 use Rattle.xs_script.specs.Form as f
-use Rattle.xs_script.specs.Form.{Form, Deed, Written}
+use Rattle.xs_script.specs.Form.{Form, Forms, Deed, Written}
 use Rattle.xs_script.specs.Grammar as g
-use Rattle.xs_script.specs.Grammar.{Stands, NamesSub, SomeArguments, Arguments, Does, AllDo, Command}
+use Rattle.xs_script.specs.Grammar.{Stands, Elements, NamesSub, Arguments, Does, AllDo, Command}
+use Rattle.xs_base.proofs.ReaderSteps.{same_outcome, bind_ok, map_ok}
 use Rattle.xs_base.specs.Readers.{tail, pure, ◌>>=◌, ◌>>◌, ◌<$>◌}
-use Rattle.xs_script.specs.Input.{Input, Reader, kind_at, sees, sees_word, next, kind_of, left, after, after_word, expect, sub_name, told, ended, eat, eat_word, part, names_sub}
-use Rattle.xs_script.specs.Rules.{arguments_from, some_arguments, arguments, called, call, set_action, action, actions_from, actions, sees_call, my_command, isa_command, sub_command, variable_command, by_word, at_end, command}
+use Rattle.xs_script.specs.Input.{Input, Reader, kind_at, sees, sees_word, next, kind_of, left, after, after_word, expect, sub_name, ended, eat, eat_word, part, names_sub}
+use Rattle.xs_script.specs.Rules.{listed, arguments_from, some_arguments, arguments, called, call, set_action, action, actions_from, actions, sees_call, my_command, isa_command, sub_command, variable_command, by_word, at_end, command}
 use Rattle.xs_script.specs.Value.{value, variable, argument}
-use Rattle.xs_script.proofs.Sound.{same_read, bind_ok, map_ok, sees_sound, word_sound, expect_sound, name_sound, text_sound, sub_sound, argument_sound, variable_sound, rest_of, behind}
+use Rattle.xs_script.proofs.Sound.{sees_sound, word_sound, expect_sound, name_sound, text_sound, sub_sound, argument_sound, variable_sound, rest_of, same_parts, behind}
 use Rattle.xs_script.proofs.SoundValues.{value_sound}
 
 abbrev word : List ℕ → Token
@@ -34,48 +36,51 @@ by_next w here other i r P first more h = by_test (sees_word w i) refl h
 
 -- ---- arguments
 
-more_at : (s : Bool) (es : List Form) (ts ts' us : List Token) → ts ≡ ts' → Arguments s es ts' us → Arguments s es ts us
-more_at s es ts ts' us eq x = subst (λ (l : List Token). Arguments s es l us) (sym eq) x
-
-some_sound : (s : Bool) (n : ℕ) (all es' : List Expr) (i j : Input) → arguments_from s n all i ≡ Ok (es', j) → (es : List Form) × SomeArguments s es i.rest j.rest
-unfolding arguments_from after next
-some_sound s zero all es' i j h = absurd cc
-some_sound s (suc n) all es' i j h =
-    let q = bind_ok (value s i) (λ e. eat mark.Comma >>= λ more. if more then arguments_from s n (all ++ e ∷ []) else (expect mark.CloseRound >> pure (all ++ e ∷ []))) (es', j) h in
-    let x = value_sound s i q.1 q.0 q.2 in
-    by_comma q.0 q.1 x.0 x.1 (some_sound s n (all ++ q.0 ∷ []) es' (next q.1) j) (sees mark.Comma q.1) refl q.3
+-- What is read as a list stands there, where each of its parts does.
+listed_sound : {A : Type 0} (one : Reader A) (between : Mark) (end : Reader (Unit {0})) (One All : List Token → List Token → Type 0)
+    → ((i j : Input) (a : A) → one i ≡ Ok (a, j) → One i.rest j.rest)
+    → ((ts us vs : List Token) → One ts (token.Mark between ∷ us) → All us vs → All ts vs)
+    → ((ts : List Token) (k j : Input) (u : Unit {0}) → One ts k.rest → end k ≡ Ok (u, j) → All ts j.rest)
+    → (n : ℕ) (all read : List A) (i j : Input) → listed one between end n all i ≡ Ok (read, j) → All i.rest j.rest
+unfolding listed after next
+listed_sound one between end One All stands more last zero all read i j h = absurd cc
+listed_sound {A} one between end One All stands more last (suc n) all read i j h =
+    let q = bind_ok (one i) (λ a. eat between >>= λ is_more. if is_more then listed one between end n (all ++ a ∷ []) else (end >> pure (all ++ a ∷ []))) (read, j) h in
+    by_more q.0 q.1 (stands i q.1 q.0 q.2) (listed_sound one between end One All stands more last n (all ++ q.0 ∷ []) read (next q.1) j) (sees between q.1) refl q.3
   where
-    by_comma : (v : Expr) (k : Input) (e : Form) → Stands s e i.rest k.rest → (arguments_from s n (all ++ v ∷ []) (next k) ≡ Ok (es', j) → (es : List Form) × SomeArguments s es (next k).rest j.rest)
-        → (b : Bool) → sees mark.Comma k ≡ b → (if b then arguments_from s n (all ++ v ∷ []) else (expect mark.CloseRound >> pure (all ++ v ∷ []))) (if b then next k else k) ≡ Ok (es', j)
-        → (es : List Form) × SomeArguments s es i.rest j.rest
-    by_comma v k e x again true c h =
-        let w = again h in
-        (e ∷ w.0, g.more_arguments (subst (λ (l : List Token). Stands s e i.rest l) (sees_sound mark.Comma k c) x) w.1)
-    by_comma v k e x again false c h =
-        let u = bind_ok (expect mark.CloseRound k) (λ _. pure (all ++ v ∷ [])) (es', j) h in
-        let o = same_read (all ++ v ∷ []) es' u.1 j u.3 in
-        let there = expect_sound mark.CloseRound k u.1 u.0 u.2 ∙ ap (λ (l : List Token). token.Mark mark.CloseRound ∷ l) (rest_of u.1 j o.1) in
-        (e ∷ [], g.last_argument (subst (λ (l : List Token). Stands s e i.rest l) there x))
+    by_more : (a : A) (k : Input) → One i.rest k.rest → (listed one between end n (all ++ a ∷ []) (next k) ≡ Ok (read, j) → All (next k).rest j.rest)
+        → (b : Bool) → sees between k ≡ b → (if b then listed one between end n (all ++ a ∷ []) else (end >> pure (all ++ a ∷ []))) (if b then next k else k) ≡ Ok (read, j) → All i.rest j.rest
+    by_more a k x again true c h = more i.rest (next k).rest j.rest (subst (λ (l : List Token). One i.rest l) (sees_sound between k c) x) (again h)
+    by_more a k x again false c h =
+        let u = bind_ok (end k) (λ _. pure (all ++ a ∷ [])) (read, j) h in
+        let o = same_outcome (all ++ a ∷ []) read u.1 j u.3 in
+        subst (λ (l : Input). All i.rest l.rest) o.1 (last i.rest k u.1 u.0 x u.2)
 
-arguments_sound : (s : Bool) (i j : Input) (es' : List Expr) → arguments s i ≡ Ok (es', j) → (es : List Form) × Arguments s es i.rest j.rest
+some_sound : (s : Bool) (n : ℕ) (all es' : List Expr) (i j : Input) → arguments_from s n all i ≡ Ok (es', j) → (es : Forms) × Elements mark.CloseRound s es i.rest j.rest
+some_sound s = listed_sound (value s) mark.Comma (expect mark.CloseRound) (λ ts us. (e : Form) × Stands s e ts us) (λ ts us. (es : Forms) × Elements mark.CloseRound s es ts us)
+    (λ i j v h. value_sound s i j v h)
+    (λ ts us vs x w. (f.MoreForms x.0 w.0, g.more_elements x.1 w.1))
+    (λ ts k j u x h. (f.MoreForms x.0 f.NoForm, g.last_element (subst (λ (l : List Token). Stands s x.0 ts l) (expect_sound mark.CloseRound k j u h) x.1)))
+
+arguments_sound : (s : Bool) (i j : Input) (es' : List Expr) → arguments s i ≡ Ok (es', j) → (es : Forms) × Arguments s es i.rest j.rest
 unfolding arguments some_arguments after next
 arguments_sound s i j es' h =
     let q = bind_ok (expect mark.OpenRound i) (λ _. eat mark.CloseRound >>= λ is_empty. if is_empty then pure [] else some_arguments s) (es', j) h in
     by_empty q.1 (expect_sound mark.OpenRound i q.1 q.0 q.2) (sees mark.CloseRound q.1) refl q.3
   where
     by_empty : (k : Input) → i.rest ≡ token.Mark mark.OpenRound ∷ k.rest → (b : Bool) → sees mark.CloseRound k ≡ b → (if b then pure [] else some_arguments s) (if b then next k else k) ≡ Ok (es', j)
-        → (es : List Form) × Arguments s es i.rest j.rest
+        → (es : Forms) × Arguments s es i.rest j.rest
     by_empty k first true c h =
-        let o = same_read [] es' (next k) j h in
+        let o = same_outcome [] es' (next k) j h in
         let two = first ∙ ap (λ (l : List Token). token.Mark mark.OpenRound ∷ l) (behind (token.Mark mark.CloseRound) k.rest j.rest (sees_sound mark.CloseRound k c) (rest_of (next k) j o.1)) in
-        ([], more_at s [] i.rest (token.Mark mark.OpenRound ∷ token.Mark mark.CloseRound ∷ j.rest) j.rest two g.no_arguments)
+        (f.NoForm, same_parts (λ (l : List Token). Arguments s f.NoForm l j.rest) i.rest (token.Mark mark.OpenRound ∷ token.Mark mark.CloseRound ∷ j.rest) two g.nothing_in)
     by_empty k first false c h =
         let w = some_sound s (left k) [] es' k j h in
-        (w.0, more_at s w.0 i.rest (token.Mark mark.OpenRound ∷ k.rest) j.rest first (g.some_arguments w.1))
+        (w.0, same_parts (λ (l : List Token). Arguments s w.0 l j.rest) i.rest (token.Mark mark.OpenRound ∷ k.rest) first (g.elements_in w.1))
 
 -- the name of a sub stands at the front, and its arguments behind it
 abbrev Calling : Bool → List ℕ → Input → Input → Type 0
-Calling s n i j = (t : Token) × (k : Input) × (es : List Form) × NamesSub n t × (i.rest ≡ t ∷ k.rest) × Arguments s es k.rest j.rest
+Calling s n i j = (t : Token) × (k : Input) × (es : Forms) × NamesSub n t × (i.rest ≡ t ∷ k.rest) × Arguments s es k.rest j.rest
 
 call_sound : (s : Bool) (i j : Input) (c : List ℕ × List Expr) → call s i ≡ Ok (c, j) → Calling s c.0 i j
 unfolding call
@@ -91,9 +96,6 @@ call_sound s i j c h =
 abbrev Doing : Input → Input → Type 0
 Doing i j = (d : Deed) × Does d i.rest j.rest
 
-does_at : (d : Deed) (ts ts' us : List Token) → ts ≡ ts' → Does d ts' us → Does d ts us
-does_at d ts ts' us eq x = subst (λ (l : List Token). Does d l us) (sym eq) x
-
 set_sound : (i j : Input) (a : Act) → i.rest ≡ word (codes "set") ∷ tail i.rest → set_action (next i) ≡ Ok (a, j) → Doing i j
 unfolding set_action next
 set_sound i j a first h =
@@ -103,14 +105,14 @@ set_sound i j a first h =
     let k = argument_sound (next i) q.1 q.0 q.2 in
     let x = value_sound true u.1 j v.0 v.1 in
     let whole = first ∙ ap (λ (l : List Token). word (codes "set") ∷ l) (k.1 ∙ ap (λ (l : List Token). word (codes "arg") ∷ token.Number k.0 ∷ l) (expect_sound mark.Equals q.1 u.1 u.0 u.2)) in
-    (f.Set k.0 x.0, does_at (f.Set k.0 x.0) i.rest (word (codes "set") ∷ word (codes "arg") ∷ token.Number k.0 ∷ token.Mark mark.Equals ∷ u.1.rest) j.rest whole (g.set {k = k.0} {e = x.0} x.1))
+    (f.Set k.0 x.0, same_parts (λ (l : List Token). Does (f.Set k.0 x.0) l j.rest) i.rest (word (codes "set") ∷ word (codes "arg") ∷ token.Number k.0 ∷ token.Mark mark.Equals ∷ u.1.rest) whole (g.set {k = k.0} {e = x.0} x.1))
 
 push_sound : (i j : Input) (a : Act) → i.rest ≡ word (codes "push") ∷ tail i.rest → (p.Push <$> value true) (next i) ≡ Ok (a, j) → Doing i j
 unfolding next
 push_sound i j a first h =
     let v = map_ok p.Push (value true (next i)) a j h in
     let x = value_sound true (next i) j v.0 v.1 in
-    (f.Push x.0, does_at (f.Push x.0) i.rest (word (codes "push") ∷ tail i.rest) j.rest first (g.push x.1))
+    (f.Push x.0, same_parts (λ (l : List Token). Does (f.Push x.0) l j.rest) i.rest (word (codes "push") ∷ tail i.rest) first (g.push x.1))
 
 call_action_sound : (i j : Input) (a : Act) → i.rest ≡ word (codes "call") ∷ tail i.rest → ((λ (d : List ℕ × List Expr). p.Call d.0 d.1) <$> call true) (next i) ≡ Ok (a, j) → Doing i j
 unfolding next
@@ -118,14 +120,14 @@ call_action_sound i j a first h =
     let v = map_ok (λ (d : List ℕ × List Expr). p.Call d.0 d.1) (call true (next i)) a j h in
     let x = call_sound true (next i) j v.0 v.1 in
     let whole = first ∙ ap (λ (l : List Token). word (codes "call") ∷ l) x.4 in
-    (f.Call v.0.0 x.2, does_at (f.Call v.0.0 x.2) i.rest (word (codes "call") ∷ x.0 ∷ x.1.rest) j.rest whole (g.call {n = v.0.0} {es = x.2} x.3 x.5))
+    (f.Call v.0.0 x.2, same_parts (λ (l : List Token). Does (f.Call v.0.0 x.2) l j.rest) i.rest (word (codes "call") ∷ x.0 ∷ x.1.rest) whole (g.call {n = v.0.0} {es = x.2} x.3 x.5))
 
 die_sound : (i j : Input) (a : Act) → i.rest ≡ word (codes "die") ∷ tail i.rest → (p.Die <$> part kind.Text) (next i) ≡ Ok (a, j) → Doing i j
 unfolding next
 die_sound i j a first h =
     let v = map_ok p.Die (part kind.Text (next i)) a j h in
     let whole = first ∙ ap (λ (l : List Token). word (codes "die") ∷ l) (text_sound (next i) j v.0 v.1) in
-    (f.Die v.0, does_at (f.Die v.0) i.rest (word (codes "die") ∷ token.Text v.0 ∷ j.rest) j.rest whole g.die)
+    (f.Die v.0, same_parts (λ (l : List Token). Does (f.Die v.0) l j.rest) i.rest (word (codes "die") ∷ token.Text v.0 ∷ j.rest) whole g.die)
 
 action_sound : (i j : Input) (a : Act) → action i ≡ Ok (a, j) → Doing i j
 unfolding action
@@ -136,38 +138,21 @@ action_sound i j a h =
     by_next (codes "die") _ _ i (a, j) (Doing i j) (λ first h. die_sound i j a first h) (λ h. absurd cc)))) h
 
 actions_sound : (n : ℕ) (all as' : List Act) (i j : Input) → actions_from n all i ≡ Ok (as', j) → j.rest ≡ [] → (ds : List Deed) × AllDo ds i.rest
-unfolding actions_from after next
-actions_sound zero all as' i j h end = absurd cc
-actions_sound (suc n) all as' i j h end =
-    let q = bind_ok (action i) (λ a. eat mark.Semicolon >>= λ more. if more then actions_from n (all ++ a ∷ []) else pure (all ++ a ∷ [])) (as', j) h in
-    let x = action_sound i q.1 q.0 q.2 in
-    by_more q.0 q.1 x.0 x.1 (λ h'. actions_sound n (all ++ q.0 ∷ []) as' (next q.1) j h' end) (sees mark.Semicolon q.1) refl q.3
-  where
-    by_more : (a : Act) (k : Input) (d : Deed) → Does d i.rest k.rest → (actions_from n (all ++ a ∷ []) (next k) ≡ Ok (as', j) → (ds : List Deed) × AllDo ds (next k).rest)
-        → (b : Bool) → sees mark.Semicolon k ≡ b → (if b then actions_from n (all ++ a ∷ []) else pure (all ++ a ∷ [])) (if b then next k else k) ≡ Ok (as', j) → (ds : List Deed) × AllDo ds i.rest
-    by_more a k d x again true c h =
-        let w = again h in
-        (d ∷ w.0, g.more_deeds (subst (λ (l : List Token). Does d i.rest l) (sees_sound mark.Semicolon k c) x) w.1)
-    by_more a k d x again false c h =
-        let o = same_read (all ++ a ∷ []) as' k j h in
-        (d ∷ [], g.last_deed (subst (λ (l : List Token). Does d i.rest l) (rest_of k j o.1 ∙ end) x))
+actions_sound = listed_sound action mark.Semicolon (pure tt) (λ ts us. (d : Deed) × Does d ts us) (λ ts us. us ≡ [] → (ds : List Deed) × AllDo ds ts)
+    (λ i j a h. action_sound i j a h)
+    (λ ts us vs x w end. let all = w end in (x.0 ∷ all.0, g.more_deeds x.1 all.1))
+    (λ ts k j u x h end. (x.0 ∷ [], g.last_deed (subst (λ (l : List Token). Does x.0 ts l) (rest_of k j (same_outcome tt u k j h).1 ∙ end) x.1)))
 
 -- ---- commands
 
 abbrev Commanding : Input → Type 0
 Commanding i = (c : Written) × Command c i.rest
 
-command_at : (c : Written) (ts ts' : List Token) → ts ≡ ts' → Command c ts' → Command c ts
-command_at c ts ts' eq x = subst (λ (l : List Token). Command c l) (sym eq) x
-
-arguments_to : (s : Bool) (es : List Form) (ts us vs : List Token) → us ≡ vs → Arguments s es ts us → Arguments s es ts vs
-arguments_to s es ts us vs eq x = subst (λ (l : List Token). Arguments s es ts l) eq x
-
 my_sound : (line : ℕ) (i j : Input) (c : Said) → i.rest ≡ word (codes "my") ∷ tail i.rest → my_command line (next i) ≡ Ok (c, j) → j.rest ≡ [] → Commanding i
 unfolding my_command next sees_call after_word
 my_sound line i j c first h end =
-    let q = bind_ok (part kind.Name (next i)) (λ n. expect mark.Equals >> ((λ input. told (sees_call input) input) >>= λ is_call. if is_call then (eat_word (codes "call") >> ((λ (d : List ℕ × List Expr). p.MyCall line n d.0 d.1) <$> call false)) else p.My line n <$> value false)) (c, j) h in
-    let u = bind_ok (expect mark.Equals q.1) (λ _. (λ input. told (sees_call input) input) >>= λ is_call. if is_call then (eat_word (codes "call") >> ((λ (d : List ℕ × List Expr). p.MyCall line q.0 d.0 d.1) <$> call false)) else p.My line q.0 <$> value false) (c, j) q.3 in
+    let q = bind_ok (part kind.Name (next i)) (λ n. expect mark.Equals >> ((λ input. pure (sees_call input) input) >>= λ is_call. if is_call then (eat_word (codes "call") >> ((λ (d : List ℕ × List Expr). p.MyCall line n d.0 d.1) <$> call false)) else p.My line n <$> value false)) (c, j) h in
+    let u = bind_ok (expect mark.Equals q.1) (λ _. (λ input. pure (sees_call input) input) >>= λ is_call. if is_call then (eat_word (codes "call") >> ((λ (d : List ℕ × List Expr). p.MyCall line q.0 d.0 d.1) <$> call false)) else p.My line q.0 <$> value false) (c, j) q.3 in
     let three = first ∙ ap (λ (l : List Token). word (codes "my") ∷ l) (name_sound (next i) q.1 q.0 q.2 ∙ ap (λ (l : List Token). word q.0 ∷ l) (expect_sound mark.Equals q.1 u.1 u.0 u.2)) in
     by_call q.0 u.1 three (sees_call u.1) refl u.3
   where
@@ -179,27 +164,27 @@ my_sound line i j c first h end =
         let v = map_ok (λ (d : List ℕ × List Expr). p.MyCall line n d.0 d.1) (call false (next k)) c j h' in
         let x = call_sound false (next k) j v.0 v.1 in
         let five = three ∙ ap (λ (l : List Token). word (codes "my") ∷ word n ∷ token.Mark mark.Equals ∷ l) (w ∙ ap (λ (l : List Token). word (codes "call") ∷ l) x.4) in
-        (f.MyCall n v.0.0 x.2, command_at (f.MyCall n v.0.0 x.2) i.rest (word (codes "my") ∷ word n ∷ token.Mark mark.Equals ∷ word (codes "call") ∷ x.0 ∷ x.1.rest) five (g.my_call {n = n} {m = v.0.0} {es = x.2} x.3 (arguments_to false x.2 x.1.rest j.rest [] end x.5)))
+        (f.MyCall n v.0.0 x.2, same_parts (Command (f.MyCall n v.0.0 x.2)) i.rest (word (codes "my") ∷ word n ∷ token.Mark mark.Equals ∷ word (codes "call") ∷ x.0 ∷ x.1.rest) five (g.my_call {n = n} {m = v.0.0} {es = x.2} x.3 (subst (λ (l : List Token). Arguments false x.2 x.1.rest l) end x.5)))
     by_call n k three false e h =
         let v = map_ok (p.My line n) (value false k) c j h in
         let x = value_sound false k j v.0 v.1 in
-        (f.My n x.0, command_at (f.My n x.0) i.rest (word (codes "my") ∷ word n ∷ token.Mark mark.Equals ∷ k.rest) three (g.my (subst (λ (l : List Token). Stands false x.0 k.rest l) end x.1)))
+        (f.My n x.0, same_parts (Command (f.My n x.0)) i.rest (word (codes "my") ∷ word n ∷ token.Mark mark.Equals ∷ k.rest) three (g.my (subst (λ (l : List Token). Stands false x.0 k.rest l) end x.1)))
 
 call_command_sound : (line : ℕ) (i j : Input) (c : Said) → i.rest ≡ word (codes "call") ∷ tail i.rest → ((λ (d : List ℕ × List Expr). p.CallSub line d.0 d.1) <$> call false) (next i) ≡ Ok (c, j) → j.rest ≡ [] → Commanding i
 unfolding next
 call_command_sound line i j c first h end =
     let v = map_ok (λ (d : List ℕ × List Expr). p.CallSub line d.0 d.1) (call false (next i)) c j h in
     let x = call_sound false (next i) j v.0 v.1 in
-    (f.CallSub v.0.0 x.2, command_at (f.CallSub v.0.0 x.2) i.rest (word (codes "call") ∷ x.0 ∷ x.1.rest) (first ∙ ap (λ (l : List Token). word (codes "call") ∷ l) x.4) (g.call_sub {n = v.0.0} {es = x.2} x.3 (arguments_to false x.2 x.1.rest j.rest [] end x.5)))
+    (f.CallSub v.0.0 x.2, same_parts (Command (f.CallSub v.0.0 x.2)) i.rest (word (codes "call") ∷ x.0 ∷ x.1.rest) (first ∙ ap (λ (l : List Token). word (codes "call") ∷ l) x.4) (g.call_sub {n = v.0.0} {es = x.2} x.3 (subst (λ (l : List Token). Arguments false x.2 x.1.rest l) end x.5)))
 
 isa_sound : (line : ℕ) (i j : Input) (c : Said) → i.rest ≡ word (codes "isa") ∷ tail i.rest → isa_command line (next i) ≡ Ok (c, j) → j.rest ≡ [] → Commanding i
 unfolding isa_command next
 isa_sound line i j c first h end =
     let q = bind_ok (part kind.Name (next i)) (λ class. part kind.Name >>= λ parent. pure (p.Isa line class parent)) (c, j) h in
     let u = bind_ok (part kind.Name q.1) (λ parent. pure (p.Isa line q.0 parent)) (c, j) q.3 in
-    let o = same_read (p.Isa line q.0 u.0) c u.1 j u.3 in
+    let o = same_outcome (p.Isa line q.0 u.0) c u.1 j u.3 in
     let whole = first ∙ ap (λ (l : List Token). word (codes "isa") ∷ l) (name_sound (next i) q.1 q.0 q.2 ∙ ap (λ (l : List Token). word q.0 ∷ l) (name_sound q.1 u.1 u.0 u.2 ∙ ap (λ (l : List Token). word u.0 ∷ l) (rest_of u.1 j o.1 ∙ end))) in
-    (f.Isa q.0 u.0, command_at (f.Isa q.0 u.0) i.rest (word (codes "isa") ∷ word q.0 ∷ word u.0 ∷ []) whole g.isa)
+    (f.Isa q.0 u.0, same_parts (Command (f.Isa q.0 u.0)) i.rest (word (codes "isa") ∷ word q.0 ∷ word u.0 ∷ []) whole g.isa)
 
 sub_command_sound : (line : ℕ) (i j : Input) (c : Said) → i.rest ≡ word (codes "sub") ∷ tail i.rest → sub_command line (next i) ≡ Ok (c, j) → j.rest ≡ [] → Commanding i
 unfolding sub_command actions next
@@ -210,7 +195,7 @@ sub_command_sound line i j c first h end =
     let t = sub_sound (next i) q.1 q.0 q.2 in
     let x = actions_sound (left u.1) [] v.0 u.1 j v.1 end in
     let whole = first ∙ ap (λ (l : List Token). word (codes "sub") ∷ l) (t.2 ∙ ap (λ (l : List Token). t.0 ∷ l) (expect_sound mark.Equals q.1 u.1 u.0 u.2)) in
-    (f.Sub q.0 x.0, command_at (f.Sub q.0 x.0) i.rest (word (codes "sub") ∷ t.0 ∷ token.Mark mark.Equals ∷ u.1.rest) whole (g.sub {n = q.0} {ds = x.0} t.1 x.1))
+    (f.Sub q.0 x.0, same_parts (Command (f.Sub q.0 x.0)) i.rest (word (codes "sub") ∷ t.0 ∷ token.Mark mark.Equals ∷ u.1.rest) whole (g.sub {n = q.0} {ds = x.0} t.1 x.1))
 
 -- a word and a variable are all of the line
 two_parts : (w n : List ℕ) (i j : Input) → i.rest ≡ word w ∷ tail i.rest → variable (next i) ≡ Ok (n, j) → j.rest ≡ [] → i.rest ≡ word w ∷ word n ∷ []
@@ -222,7 +207,7 @@ one_variable : (w : List ℕ) (said : List ℕ → Said) (written : List ℕ →
     → i.rest ≡ word w ∷ tail i.rest → (said <$> variable) (next i) ≡ Ok (c, j) → j.rest ≡ [] → Commanding i
 one_variable w said written stands i j c first h end =
     let v = map_ok said (variable (next i)) c j h in
-    (written v.0, command_at (written v.0) i.rest (word w ∷ word v.0 ∷ []) (two_parts w v.0 i j first v.1 end) (stands v.0))
+    (written v.0, same_parts (Command (written v.0)) i.rest (word w ∷ word v.0 ∷ []) (two_parts w v.0 i j first v.1 end) (stands v.0))
 
 variable_command_sound : (line : ℕ) (i j : Input) (c : Said) → variable_command line i ≡ Ok (c, j) → j.rest ≡ [] → Commanding i
 unfolding variable_command
@@ -240,7 +225,7 @@ by_word_sound line i j c h end =
     by_next (codes "sub") _ _ i (c, j) (Commanding i) (λ first h. sub_command_sound line i j c first h end) (λ h. variable_command_sound line i j c h end)))) h
 
 ended_sound : (i : Input) (u : Unit {0}) (j : Input) (ts : List Token) → ended (kind_at ts) i ≡ Ok (u, j) → (ts ≡ []) × (i ≡ j)
-ended_sound i u j [] h = (refl, (same_read tt u i j h).1)
+ended_sound i u j [] h = (refl, (same_outcome tt u i j h).1)
 ended_sound i u j (token.Name n ∷ ts) h = absurd cc
 ended_sound i u j (token.Number n ∷ ts) h = absurd cc
 ended_sound i u j (token.Text n ∷ ts) h = absurd cc

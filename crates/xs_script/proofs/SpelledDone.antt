@@ -1,12 +1,11 @@
 -- Parts that are spelled by bytes are what the bytes are cut into.
 use Rattle.std.proofs.Common.{◌≡◌, ℕ, suc, ◌+◌, ◌-◌, ◌*◌, ◌==◌, Bool, true, false, List, [], ◌∷◌, ◌++◌, length, drop, Some, Ok, refl, ap, ◌∙◌, subst, arith, append_assoc, if◌then◌else◌}
-use Rattle.std.proofs.lemmas.Bool.{and_parts, eqb-true}
-use Rattle.std.proofs.lemmas.Bool.Decides.{nat_tests}
+use Rattle.std.proofs.lemmas.Bool.{and_parts, cond-false, cond-true, eqb-true, or_right}
 use Rattle.std.proofs.lemmas.List.{append-nil}
 use Rattle.std.proofs.Math.Seq.{drop-append_seam}
 use Rattle.std.specs.List.{list_all}
+use Rattle.std.specs.Prelude.{codes, ◌||◌}
 use Rattle.xs_script.specs.declared.lexing.TextPlace.TheVariants as place
-use Rattle.xs_script.specs.declared.token.Front.{Front}
 use Rattle.xs_script.specs.declared.token.Front.TheVariants as front
 use Rattle.xs_script.specs.declared.token.Mark.{Mark}
 use Rattle.xs_script.specs.declared.token.Mark.TheVariants as mark
@@ -15,26 +14,18 @@ use Rattle.xs_script.specs.declared.token.Token.TheVariants as token
 use Rattle.xs_base.specs.Names.{IsJoined, is_qualified_name, is_rest_of_name}
 use Rattle.xs_base.specs.Readers.{head_is}
 use Rattle.xs_base.specs.Runs.{belongs}
-use Rattle.xs_base.specs.Scanning.{begins_word, is_blank, is_digit}
+use Rattle.xs_base.specs.Scanning.{begins_with, begins_word, is_blank, is_digit}
 use Rattle.xs_base.specs.declared.names.NameByte.TheVariants.{Further}
 use Rattle.xs_base.specs.declared.runs.ByteClass.TheVariants.{Digit, Name}
 use Rattle.xs_base.proofs.FrontRuns.{front_seam, behind_seam}
 use Rattle.xs_base.proofs.Qualified.{joined_qualified, qualified_bytes}
+use Rattle.xs_base.proofs.WordBytes.{digit_not_word, word_not_blank}
 use Rattle.xs_script.specs.Lex.{escape_value, name_front, number_front, signed_number, text_front, first_part, tokens_from, tokens_of}
 use Rattle.xs_script.specs.Spelling as sp
 use Rattle.xs_script.specs.Spelling.{IsDigits, StandFor, Spelled, mark_text, goes_on}
 use Rattle.xs_script.proofs.LexSteps.{tokens_from-skip}
 
 -- ---- bytes
-
-word_not_blank : (b : ℕ) → begins_word b ≡ true → is_blank b ≡ false
-word_not_blank b h = grind (arith, nat_tests)
-
-digit_not_blank : (b : ℕ) → is_digit b ≡ true → is_blank b ≡ false
-digit_not_blank b h = grind (arith, nat_tests)
-
-digit_not_word : (b : ℕ) → is_digit b ≡ true → begins_word b ≡ false
-digit_not_word b h = grind (arith, nat_tests)
 
 -- the first byte of a qualified name
 name_begins : (b : ℕ) (bs : List ℕ) → is_qualified_name (b ∷ bs) ≡ true → begins_word b ≡ true
@@ -46,24 +37,13 @@ name_begins b bs h = by (begins_word b) h
 
 -- ---- one part
 
-second_of : (a b : Bool) (u v w : Front) → a ≡ false → b ≡ true → (if a then u else (if b then v else w)) ≡ v
-second_of true b u v w e e' = absurd cc
-second_of false true u v w e e' = refl
-second_of false false u v w e e' = absurd cc
-
-third_of : (a b c : Bool) (u v w x : Front) → a ≡ false → b ≡ false → c ≡ true → (if a then u else (if b then v else (if c then w else x))) ≡ w
-third_of true b c u v w x e e' e'' = absurd cc
-third_of false true c u v w x e e' e'' = absurd cc
-third_of false false true u v w x e e' e'' = refl
-third_of false false false u v w x e e' e'' = absurd cc
-
 front_word : (b : ℕ) (bs : List ℕ) → begins_word b ≡ true → first_part (b ∷ bs) ≡ name_front (b ∷ bs)
 unfolding first_part
-front_word b bs h = second_of (is_blank b) (begins_word b) front.Blank (name_front (b ∷ bs)) _ (word_not_blank b h) h
+front_word b bs h = cond-false (is_blank b) _ _ (word_not_blank b (ap (λ t. t || is_digit b) h)) ∙ cond-true (begins_word b) _ _ h
 
 front_digit : (b : ℕ) (bs : List ℕ) → is_digit b ≡ true → first_part (b ∷ bs) ≡ number_front [] (b ∷ bs)
 unfolding first_part
-front_digit b bs h = third_of (is_blank b) (begins_word b) (is_digit b) front.Blank (name_front (b ∷ bs)) (number_front [] (b ∷ bs)) _ (digit_not_blank b h) (digit_not_word b h) h
+front_digit b bs h = cond-false (is_blank b) _ _ (word_not_blank b (or_right (begins_word b) (is_digit b) h)) ∙ cond-false (begins_word b) _ _ (digit_not_word b h) ∙ cond-true (is_digit b) _ _ h
 
 piece_done : (b : ℕ) (bs : List ℕ) (t : Token) (len : ℕ) (ts : List Token) → first_part (b ∷ bs) ≡ front.Piece t (suc len) → tokens_from 0 (drop len bs) ≡ Ok ts → tokens_from 0 (b ∷ bs) ≡ Ok (t ∷ ts)
 unfolding tokens_from
@@ -71,13 +51,13 @@ piece_done b bs t len ts e h =
     let less : suc len - 1 ≡ len = omega arith in
     rw (e, less, tokens_from-skip len bs, h) refl
 
-name_front_done : (n bs : List ℕ) → IsJoined n → head_is (belongs Name) bs ≡ false → head_is (λ b. b == 45) bs ≡ false → name_front (n ++ bs) ≡ front.Piece (token.Name n) (length n)
+name_front_done : (n bs : List ℕ) → IsJoined n → head_is (belongs Name) bs ≡ false → begins_with (codes "-") bs ≡ false → name_front (n ++ bs) ≡ front.Piece (token.Name n) (length n)
 name_front_done n bs x stop sign =
     let q = joined_qualified x in
     let all = qualified_bytes n q in
     rw (front_seam Name n bs all stop, behind_seam Name n bs all stop, q, sign) refl
 
-name_done : (n bs : List ℕ) (ts : List Token) → IsJoined n → head_is (belongs Name) bs ≡ false → head_is (λ b. b == 45) bs ≡ false → tokens_from 0 bs ≡ Ok ts → tokens_from 0 (n ++ bs) ≡ Ok (token.Name n ∷ ts)
+name_done : (n bs : List ℕ) (ts : List Token) → IsJoined n → head_is (belongs Name) bs ≡ false → begins_with (codes "-") bs ≡ false → tokens_from 0 bs ≡ Ok ts → tokens_from 0 (n ++ bs) ≡ Ok (token.Name n ∷ ts)
 name_done [] bs ts x stop sign h = let no : false ≡ true = joined_qualified x in absurd cc
 name_done (c ∷ n) bs ts x stop sign h =
     piece_done c (n ++ bs) (token.Name (c ∷ n)) (length n) ts (front_word c (n ++ bs) (name_begins c n (joined_qualified x)) ∙ name_front_done (c ∷ n) bs x stop sign) (rw (drop-append_seam n bs) h)

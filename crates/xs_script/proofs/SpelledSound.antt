@@ -4,6 +4,8 @@ use Rattle.std.proofs.lemmas.Bool.{and_parts, eqb-true}
 use Rattle.std.proofs.lemmas.List.{append-nil, length-append}
 use Rattle.std.proofs.Math.Seq.{drop-append_seam}
 use Rattle.std.specs.List.{list_all}
+use Rattle.std.specs.Option.{option_map, option_to_list}
+use Rattle.std.specs.Prelude.{codes, is_some}
 use Rattle.xs_script.specs.declared.lexing.TextPlace.{TextPlace}
 use Rattle.xs_script.specs.declared.lexing.TextPlace.TheVariants as place
 use Rattle.xs_script.specs.declared.token.Front.{Front}
@@ -15,13 +17,14 @@ use Rattle.xs_script.specs.declared.token.Token.TheVariants as token
 use Rattle.xs_base.specs.Names.{is_qualified_name}
 use Rattle.xs_base.specs.Readers.{head_is}
 use Rattle.xs_base.specs.Runs.{behind, belongs, front_of}
-use Rattle.xs_base.specs.Scanning.{begins_word, is_blank, is_digit}
+use Rattle.xs_base.specs.Scanning.{after_word, begins_with, begins_word, is_blank, is_digit}
 use Rattle.xs_base.specs.declared.runs.ByteClass.TheVariants.{Digit, Name}
-use Rattle.xs_base.proofs.FrontRuns.{front_behind, front_belongs, behind_stops}
+use Rattle.xs_base.proofs.FrontRuns.{front_behind, front_belongs, behind_stops, word_in_front}
 use Rattle.xs_base.proofs.Qualified.{qualified_joined}
-use Rattle.xs_script.specs.Fronts.{with_front}
-use Rattle.xs_script.specs.Input.{NoReading, mark_byte}
-use Rattle.xs_script.specs.Lex.{hex_value, escape_value, name_before, name_front, number_front, signed_number, text_front, mark_front, single, alone, first_part, by_front, tokens_from, tokens_of, on_step, text_step, plainly, high_digit, low_digit, closes, listed}
+use Rattle.xs_base.specs.Reading.{with_front}
+use Rattle.xs_script.specs.Input.{mark_byte}
+use Rattle.xs_script.specs.Telling.{NoReading}
+use Rattle.xs_script.specs.Lex.{hex_value, escape_value, name_before, name_front, number_front, signed_number, text_front, mark_front, single, alone, first_part, by_front, tokens_from, tokens_of, on_step, text_step, plainly, high_digit, low_digit, closes}
 use Rattle.xs_script.specs.Spelling as sp
 use Rattle.xs_script.specs.Spelling.{StandFor, Spelled, mark_text}
 use Rattle.xs_script.proofs.LexSteps.{tokens_from-skip}
@@ -52,9 +55,9 @@ part_sound c k rest b bs t ts again e h spelled =
 
 name_sound : (n rest : List ℕ) (b : ℕ) (bs : List ℕ) (ts : List Token) → Again bs → n ++ rest ≡ b ∷ bs → head_is (belongs Name) rest ≡ false → by_front (name_before n rest) (parts_behind bs) ≡ Ok ts → Spelled ts (b ∷ bs)
 name_sound [] rest b bs ts again e stop h = absurd cc
-name_sound (c ∷ k) rest b bs ts again e stop h = by_tests (is_qualified_name (c ∷ k)) (head_is (λ d. d == 45) rest) refl refl h
+name_sound (c ∷ k) rest b bs ts again e stop h = by_tests (is_qualified_name (c ∷ k)) (begins_with (codes "-") rest) refl refl h
   where
-    by_tests : (q d : Bool) → is_qualified_name (c ∷ k) ≡ q → head_is (λ d. d == 45) rest ≡ d → by_front (if q && not d then front.Piece (token.Name (c ∷ k)) (suc (length k)) else front.Nothing) (parts_behind bs) ≡ Ok ts → Spelled ts (b ∷ bs)
+    by_tests : (q d : Bool) → is_qualified_name (c ∷ k) ≡ q → begins_with (codes "-") rest ≡ d → by_front (if q && not d then front.Piece (token.Name (c ∷ k)) (suc (length k)) else front.Nothing) (parts_behind bs) ≡ Ok ts → Spelled ts (b ∷ bs)
     by_tests false d is sign h = absurd cc
     by_tests true true is sign h = absurd cc
     by_tests true false is sign h = part_sound c k rest b bs (token.Name (c ∷ k)) ts again e h (λ us x. sp.name (qualified_joined (c ∷ k) is) stop sign x)
@@ -121,7 +124,7 @@ mutual
       by_x (λ v. plain_sound bs (content ++ v ∷ []) (n + 1) t len) (high_sound bs (content ++ []) (n + 1) t len) (b == 120) refl h
     where
       by_value : ((v : ℕ) → text_front place.Plain (content ++ v ∷ []) (n + 1) bs ≡ front.Piece t len → Ends StandFor (content ++ v ∷ []) (n + 1) bs t len)
-          → (o : Option ℕ) → escape_value b ≡ o → on_step (plainly o) (λ next more. text_front next (content ++ more) (n + 1) bs) ≡ front.Piece t len → Ends (λ s cs. StandFor (92 ∷ s) cs) content n (b ∷ bs) t len
+          → (o : Option ℕ) → escape_value b ≡ o → on_step (option_map plainly o) (λ next more. text_front next (content ++ more) (n + 1) bs) ≡ front.Piece t len → Ends (λ s cs. StandFor (92 ∷ s) cs) content n (b ∷ bs) t len
       by_value plain None e h = absurd cc
       by_value plain (Some v) e h =
           let w = plain v h in
@@ -130,7 +133,7 @@ mutual
       by_x : ((v : ℕ) → text_front place.Plain (content ++ v ∷ []) (n + 1) bs ≡ front.Piece t len → Ends StandFor (content ++ v ∷ []) (n + 1) bs t len)
           → (text_front place.High (content ++ []) (n + 1) bs ≡ front.Piece t len → Ends (λ s cs. StandFor (92 ∷ 120 ∷ s) cs) (content ++ []) (n + 1) bs t len)
           → (c : Bool) → (b == 120) ≡ c
-          → on_step (if c then Some (place.High, None) else plainly (escape_value b)) (λ next more. text_front next (content ++ more) (n + 1) bs) ≡ front.Piece t len → Ends (λ s cs. StandFor (92 ∷ s) cs) content n (b ∷ bs) t len
+          → on_step (if c then Some (place.High, None) else option_map plainly (escape_value b)) (λ next more. text_front next (content ++ more) (n + 1) bs) ≡ front.Piece t len → Ends (λ s cs. StandFor (92 ∷ s) cs) content n (b ∷ bs) t len
       by_x plain high true e h =
           let w = high h in
           (120 ∷ w.0, w.1, w.2, ap (λ (k : ℕ). k ∷ bs) (eqb-true b 120 e) ∙ one_more 120 w.0 bs w.2 w.3, w.4, text_same content w.1 t w.5, len_more 120 w.0 n len w.6)
@@ -141,7 +144,7 @@ mutual
   high_sound (b ∷ bs) content n t len h = by_value (λ x e. low_sound b x e bs (content ++ []) (n + 1) t len) (hex_value b) refl h
     where
       by_value : ((x : ℕ) → hex_value b ≡ Some x → text_front (place.Low x) (content ++ []) (n + 1) bs ≡ front.Piece t len → Ends (λ s cs. StandFor (92 ∷ 120 ∷ b ∷ s) cs) (content ++ []) (n + 1) bs t len)
-          → (o : Option ℕ) → hex_value b ≡ o → on_step (high_digit o) (λ next more. text_front next (content ++ more) (n + 1) bs) ≡ front.Piece t len → Ends (λ s cs. StandFor (92 ∷ 120 ∷ s) cs) content n (b ∷ bs) t len
+          → (o : Option ℕ) → hex_value b ≡ o → on_step (option_map high_digit o) (λ next more. text_front next (content ++ more) (n + 1) bs) ≡ front.Piece t len → Ends (λ s cs. StandFor (92 ∷ 120 ∷ s) cs) content n (b ∷ bs) t len
       by_value low None e h = absurd cc
       by_value low (Some x) e h =
           let w = low x e h in
@@ -152,7 +155,7 @@ mutual
   low_sound high x first (b ∷ bs) content n t len h = by_value (λ v. plain_sound bs (content ++ v ∷ []) (n + 1) t len) (hex_value b) refl h
     where
       by_value : ((v : ℕ) → text_front place.Plain (content ++ v ∷ []) (n + 1) bs ≡ front.Piece t len → Ends StandFor (content ++ v ∷ []) (n + 1) bs t len)
-          → (o : Option ℕ) → hex_value b ≡ o → on_step (low_digit x o) (λ next more. text_front next (content ++ more) (n + 1) bs) ≡ front.Piece t len → Ends (λ s cs. StandFor (92 ∷ 120 ∷ high ∷ s) cs) content n (b ∷ bs) t len
+          → (o : Option ℕ) → hex_value b ≡ o → on_step (option_map (low_digit x) o) (λ next more. text_front next (content ++ more) (n + 1) bs) ≡ front.Piece t len → Ends (λ s cs. StandFor (92 ∷ 120 ∷ high ∷ s) cs) content n (b ∷ bs) t len
       by_value plain None e h = absurd cc
       by_value plain (Some y) e h =
           let w = plain (16 * x + y) h in
@@ -166,7 +169,7 @@ no_blank (b ∷ bs) content n p h = by_close (λ q more. no_blank bs (content ++
         → (if c then front.Piece (token.Text content) (n + 1) else on_step o (λ next more. text_front next (content ++ more) (n + 1) bs)) ≡ front.Blank → ⊥
     by_close again true o h = cc
     by_close again false None h = cc
-    by_close again false (Some next) h = again next.0 (listed next.1) h
+    by_close again false (Some next) h = again next.0 (option_to_list next.1) h
 
 text_sound : (bs : List ℕ) (ts : List Token) → Again bs → (fr : Front) → text_front place.Plain [] 1 bs ≡ fr → by_front fr (parts_behind bs) ≡ Ok ts → Spelled ts (34 ∷ bs)
 text_sound bs ts again front.Nothing e h = absurd cc
@@ -203,24 +206,27 @@ single_text b m h =
     if_some (b == 59) mark.Semicolon m _ P (is 59) (
     if_some (b == 92) mark.Backslash m None P (is 92) (λ h. absurd cc)))))))))) h
 
-arrow_sound : (b : ℕ) (bs : List ℕ) (ts : List Token) → Again bs → (b == 61 && head_is (λ c. c == 62) bs) ≡ true → by_front (front.Piece (token.Mark mark.Arrow) 2) (parts_behind bs) ≡ Ok ts → Spelled ts (b ∷ bs)
-arrow_sound b [] ts again e h = let no = (and_parts (b == 61) false e).1 in absurd cc
-arrow_sound b (c ∷ bs) ts again e h =
-    let p = and_parts (b == 61) (c == 62) e in
-    let two : 61 ∷ 62 ∷ bs ≡ b ∷ c ∷ bs = ap (λ (k : ℕ). k ∷ 62 ∷ bs) (sym (eqb-true b 61 p.0)) ∙ ap (λ (k : ℕ). b ∷ k ∷ bs) (sym (eqb-true c 62 p.1)) in
-    part_sound 61 (62 ∷ []) bs b (c ∷ bs) (token.Mark mark.Arrow) ts again two h (λ us x. sp.mark_stands mark.Arrow refl x)
+arrow_sound : (b : ℕ) (bs : List ℕ) (ts : List Token) → Again bs → (b == 61 && begins_with (codes ">") bs) ≡ true → by_front (front.Piece (token.Mark mark.Arrow) 2) (parts_behind bs) ≡ Ok ts → Spelled ts (b ∷ bs)
+arrow_sound b bs ts again e h = by_rest (after_word (codes ">") bs) refl (and_parts (b == 61) (begins_with (codes ">") bs) e).1
+  where
+    by_rest : (o : Option (List ℕ)) → after_word (codes ">") bs ≡ o → is_some o ≡ true → Spelled ts (b ∷ bs)
+    by_rest None q some = absurd cc
+    by_rest (Some rest) q some =
+        let equals : b ≡ 61 = eqb-true b 61 (and_parts (b == 61) (begins_with (codes ">") bs) e).0 in
+        let two : 61 ∷ 62 ∷ rest ≡ b ∷ bs = ap (λ (k : ℕ). k ∷ 62 ∷ rest) (sym equals) ∙ ap (λ (l : List ℕ). b ∷ l) (sym (word_in_front (codes ">") bs rest q)) in
+        part_sound 61 (62 ∷ []) rest b bs (token.Mark mark.Arrow) ts again two h (λ us x. sp.mark_stands mark.Arrow refl x)
 
 mark_sound : (b : ℕ) (bs : List ℕ) (ts : List Token) → Again bs → by_front (mark_front b bs) (parts_behind bs) ≡ Ok ts → Spelled ts (b ∷ bs)
-mark_sound b bs ts again h = by_arrow (b == 61 && head_is (λ c. c == 62) bs) refl h
+mark_sound b bs ts again h = by_arrow (b == 61 && begins_with (codes ">") bs) refl h
   where
-    by_single : (b == 61 && head_is (λ c. c == 62) bs) ≡ false → (o : Option Mark) → single b ≡ o → by_front (alone o) (parts_behind bs) ≡ Ok ts → Spelled ts (b ∷ bs)
+    by_single : (b == 61 && begins_with (codes ">") bs) ≡ false → (o : Option Mark) → single b ≡ o → by_front (alone o) (parts_behind bs) ≡ Ok ts → Spelled ts (b ∷ bs)
     by_single e None s h = absurd cc
     by_single e (Some m) s h =
         let one = single_text b m s in
-        let ends = subst (λ k. (k == 61 && head_is (λ c. c == 62) bs) ≡ false) (sym one.1) e in
+        let ends = subst (λ k. (k == 61 && begins_with (codes ">") bs) ≡ false) (sym one.1) e in
         part_sound b [] bs b bs (token.Mark m) ts again refl h (λ us x. subst (λ (l : List ℕ). Spelled (token.Mark m ∷ us) (l ++ bs)) one.0 (sp.mark_stands m ends x))
 
-    by_arrow : (c : Bool) → (b == 61 && head_is (λ c. c == 62) bs) ≡ c → by_front (if c then front.Piece (token.Mark mark.Arrow) 2 else alone (single b)) (parts_behind bs) ≡ Ok ts → Spelled ts (b ∷ bs)
+    by_arrow : (c : Bool) → (b == 61 && begins_with (codes ">") bs) ≡ c → by_front (if c then front.Piece (token.Mark mark.Arrow) 2 else alone (single b)) (parts_behind bs) ≡ Ok ts → Spelled ts (b ∷ bs)
     by_arrow true e h = arrow_sound b bs ts again e h
     by_arrow false e h = by_single e (single b) refl h
 

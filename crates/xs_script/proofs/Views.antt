@@ -10,7 +10,7 @@ use Rattle.xs_script.specs.declared.command.E.TheOpen.{E-F}
 use Rattle.xs_script.specs.declared.command.E.TheFolds.{fold-roll-E}
 use Rattle.xs_script.specs.Expr as p
 use Rattle.xs_script.specs.Expr.{Expr, exprs_of, entries_of}
-use Rattle.xs_script.specs.View.{plain, plain_step}
+use Rattle.xs_script.specs.View.{plain, entry, plain_step}
 
 pub plain-Undef : plain e.Undef ≡ p.Undef
 unfolding plain
@@ -36,7 +36,7 @@ pub plain-List : (items : Vec E Global) → plain (e.List items) ≡ p.ListOf (e
 unfolding plain
 plain-List items = ap plain (sym (rolls-List items)) ∙ fold-roll-E Expr plain_step (E-F.List items)
 
-pub plain-Hash : (entries : Vec (List ℕ × E) Global) → plain (e.Hash entries) ≡ p.HashOf (entries_of (map (λ (q : List ℕ × E). (q.0, plain q.1)) entries.items))
+pub plain-Hash : (entries : Vec (List ℕ × E) Global) → plain (e.Hash entries) ≡ p.HashOf (entries_of (map entry entries.items))
 unfolding plain
 plain-Hash entries = ap plain (sym (rolls-Hash entries)) ∙ fold-roll-E Expr plain_step (E-F.Hash entries)
 

@@ -1,14 +1,9 @@
 -- The program's open brackets as plain data.
-use Rattle.std.specs.Prelude.{ℕ, List, map, reverse}
-use Rattle.xs_script.specs.declared.command.E.{E}
+use Rattle.std.specs.Prelude.{List, map, reverse}
 use Rattle.xs_script.specs.declared.around.Open.{Open}
 use Rattle.xs_script.specs.declared.around.Open.TheVariants as o
-use Rattle.xs_script.specs.Expr.{Expr}
-use Rattle.xs_script.specs.View.{plain}
+use Rattle.xs_script.specs.View.{plain, entry}
 use Rattle.xs_script.specs.Value.{Bracket, InList, InHash}
-
-abbrev pub entry : List ℕ × E → List ℕ × Expr
-entry p = (p.0, plain p.1)
 
 abbrev pub bracket : Open → Bracket
 bracket (o.List items) = InList (map plain items.items)

@@ -25,15 +25,15 @@ mutual
 pub data Deed : Type 0 where
   Push : Form → Deed
   Set : List ℕ → Form → Deed
-  Call : List ℕ → List Form → Deed
+  Call : List ℕ → Forms → Deed
   Die : List ℕ → Deed
 
 -- a command
 pub data Written : Type 0 where
   My : List ℕ → Form → Written
-  MyCall : List ℕ → List ℕ → List Form → Written
+  MyCall : List ℕ → List ℕ → Forms → Written
   Ro : List ℕ → Written
-  CallSub : List ℕ → List Form → Written
+  CallSub : List ℕ → Forms → Written
   Show : List ℕ → Written
   Drop : List ℕ → Written
   Isa : List ℕ → List ℕ → Written

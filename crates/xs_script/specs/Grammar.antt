@@ -3,6 +3,7 @@ use Rattle.std.specs.Prelude.{◌≡◌, ℕ, Bool, true, false, List, [], ◌�
 use Rattle.std.specs.Str.{bytes_eq}
 use Rattle.xs_script.specs.declared.token.Token.{Token}
 use Rattle.xs_script.specs.declared.token.Token.TheVariants as token
+use Rattle.xs_script.specs.declared.token.Mark.{Mark}
 use Rattle.xs_script.specs.declared.token.Mark.TheVariants as mark
 use Rattle.xs_script.specs.Form as f
 use Rattle.xs_script.specs.Form.{Form, Forms, Pairs, Deed, Written}
@@ -17,15 +18,19 @@ mutual
     variable : {n : List ℕ} {ts : List Token} → bytes_eq n (codes "undef") ≡ false → Stands false (f.Variable n) (token.Name n ∷ ts) ts
     reference : {n : List ℕ} {ts : List Token} → Stands false (f.Reference n) (token.Mark mark.Backslash ∷ token.Name n ∷ ts) ts
     argument : {k : List ℕ} {ts : List Token} → Stands true (f.Argument k) (token.Name (codes "arg") ∷ token.Number k ∷ ts) ts
-    no_elements : {s : Bool} {ts : List Token} → Stands s (f.ListOf f.NoForm) (token.Mark mark.OpenSquare ∷ token.Mark mark.CloseSquare ∷ ts) ts
-    elements : {s : Bool} {fs : Forms} {ts us : List Token} → Elements s fs ts us → Stands s (f.ListOf fs) (token.Mark mark.OpenSquare ∷ ts) us
+    array : {s : Bool} {fs : Forms} {ts us : List Token} → Enclosed mark.OpenSquare mark.CloseSquare s fs ts us → Stands s (f.ListOf fs) ts us
     no_pairs : {s : Bool} {ts : List Token} → Stands s (f.HashOf f.NoPair) (token.Mark mark.OpenCurly ∷ token.Mark mark.CloseCurly ∷ ts) ts
     pairs : {s : Bool} {ps : Pairs} {ts us : List Token} → Entries s ps ts us → Stands s (f.HashOf ps) (token.Mark mark.OpenCurly ∷ ts) us
 
-  -- the elements of an array behind its opening bracket, up to behind the closing one
-  pub data Elements : Bool → Forms → List Token → List Token → Type 0 where
-    last_element : {s : Bool} {e : Form} {ts us : List Token} → Stands s e ts (token.Mark mark.CloseSquare ∷ us) → Elements s (f.MoreForms e f.NoForm) ts us
-    more_elements : {s : Bool} {e : Form} {fs : Forms} {ts us vs : List Token} → Stands s e ts (token.Mark mark.Comma ∷ us) → Elements s fs us vs → Elements s (f.MoreForms e fs) ts vs
+  -- expressions with commas between them, if there are any, with the marks around them
+  pub data Enclosed : Mark → Mark → Bool → Forms → List Token → List Token → Type 0 where
+    nothing_in : {opening closing : Mark} {s : Bool} {ts : List Token} → Enclosed opening closing s f.NoForm (token.Mark opening ∷ token.Mark closing ∷ ts) ts
+    elements_in : {opening closing : Mark} {s : Bool} {fs : Forms} {ts us : List Token} → Elements closing s fs ts us → Enclosed opening closing s fs (token.Mark opening ∷ ts) us
+
+  -- these expressions behind the opening mark, up to behind the closing one
+  pub data Elements : Mark → Bool → Forms → List Token → List Token → Type 0 where
+    last_element : {closing : Mark} {s : Bool} {e : Form} {ts us : List Token} → Stands s e ts (token.Mark closing ∷ us) → Elements closing s (f.MoreForms e f.NoForm) ts us
+    more_elements : {closing : Mark} {s : Bool} {e : Form} {fs : Forms} {ts us vs : List Token} → Stands s e ts (token.Mark mark.Comma ∷ us) → Elements closing s fs us vs → Elements closing s (f.MoreForms e fs) ts vs
 
   -- the pairs of a hash behind its opening bracket, up to behind the closing one
   pub data Entries : Bool → Pairs → List Token → List Token → Type 0 where
@@ -39,21 +44,15 @@ pub data NamesSub : List ℕ → Token → Type 0 where
   bare : {n : List ℕ} → NamesSub n (token.Name n)
   in_quotes : {n : List ℕ} → NamesSub n (token.Text n)
 
--- the arguments of a call behind the opening parenthesis, up to behind the closing one
-pub data SomeArguments : Bool → List Form → List Token → List Token → Type 0 where
-  last_argument : {s : Bool} {e : Form} {ts us : List Token} → Stands s e ts (token.Mark mark.CloseRound ∷ us) → SomeArguments s (e ∷ []) ts us
-  more_arguments : {s : Bool} {e : Form} {es : List Form} {ts us vs : List Token} → Stands s e ts (token.Mark mark.Comma ∷ us) → SomeArguments s es us vs → SomeArguments s (e ∷ es) ts vs
-
 -- the arguments of a call, with their parentheses
-pub data Arguments : Bool → List Form → List Token → List Token → Type 0 where
-  no_arguments : {s : Bool} {ts : List Token} → Arguments s [] (token.Mark mark.OpenRound ∷ token.Mark mark.CloseRound ∷ ts) ts
-  some_arguments : {s : Bool} {es : List Form} {ts us : List Token} → SomeArguments s es ts us → Arguments s es (token.Mark mark.OpenRound ∷ ts) us
+abbrev pub Arguments : Bool → Forms → List Token → List Token → Type 0
+Arguments s = Enclosed mark.OpenRound mark.CloseRound s
 
 pub data Does : Deed → List Token → List Token → Type 0 where
   push : {e : Form} {ts us : List Token} → Stands true e ts us → Does (f.Push e) (token.Name (codes "push") ∷ ts) us
   set : {k : List ℕ} {e : Form} {ts us : List Token} → Stands true e ts us
       → Does (f.Set k e) (token.Name (codes "set") ∷ token.Name (codes "arg") ∷ token.Number k ∷ token.Mark mark.Equals ∷ ts) us
-  call : {n : List ℕ} {t : Token} {es : List Form} {ts us : List Token} → NamesSub n t → Arguments true es ts us → Does (f.Call n es) (token.Name (codes "call") ∷ t ∷ ts) us
+  call : {n : List ℕ} {t : Token} {es : Forms} {ts us : List Token} → NamesSub n t → Arguments true es ts us → Does (f.Call n es) (token.Name (codes "call") ∷ t ∷ ts) us
   die : {content : List ℕ} {ts : List Token} → Does (f.Die content) (token.Name (codes "die") ∷ token.Text content ∷ ts) ts
 
 -- the actions of a sub, up to the end of the line
@@ -64,10 +63,10 @@ pub data AllDo : List Deed → List Token → Type 0 where
 -- a command, as all of a line
 pub data Command : Written → List Token → Type 0 where
   my : {n : List ℕ} {e : Form} {ts : List Token} → Stands false e ts [] → Command (f.My n e) (token.Name (codes "my") ∷ token.Name n ∷ token.Mark mark.Equals ∷ ts)
-  my_call : {n m : List ℕ} {t : Token} {es : List Form} {ts : List Token} → NamesSub m t → Arguments false es ts []
+  my_call : {n m : List ℕ} {t : Token} {es : Forms} {ts : List Token} → NamesSub m t → Arguments false es ts []
       → Command (f.MyCall n m es) (token.Name (codes "my") ∷ token.Name n ∷ token.Mark mark.Equals ∷ token.Name (codes "call") ∷ t ∷ ts)
   ro : {n : List ℕ} → Command (f.Ro n) (token.Name (codes "ro") ∷ token.Name n ∷ [])
-  call_sub : {n : List ℕ} {t : Token} {es : List Form} {ts : List Token} → NamesSub n t → Arguments false es ts [] → Command (f.CallSub n es) (token.Name (codes "call") ∷ t ∷ ts)
+  call_sub : {n : List ℕ} {t : Token} {es : Forms} {ts : List Token} → NamesSub n t → Arguments false es ts [] → Command (f.CallSub n es) (token.Name (codes "call") ∷ t ∷ ts)
   show : {n : List ℕ} → Command (f.Show n) (token.Name (codes "show") ∷ token.Name n ∷ [])
   drop : {n : List ℕ} → Command (f.Drop n) (token.Name (codes "drop") ∷ token.Name n ∷ [])
   isa : {n m : List ℕ} → Command (f.Isa n m) (token.Name (codes "isa") ∷ token.Name n ∷ token.Name m ∷ [])

@@ -1,5 +1,6 @@
 -- What a reader of a line reads from, and the steps that the rules of the grammar are made of.
-use Rattle.std.specs.Prelude.{◌≡◌, ℕ, Bool, true, false, ◌==◌, if◌then◌else◌, max, List, [], ◌∷◌, length, Option, Some, None, Result, Ok, Err}
+use Rattle.std.specs.Prelude.{ℕ, Bool, true, false, ◌==◌, if◌then◌else◌, max, List, [], ◌∷◌, length, Option, Some, None, Result, Ok, Err}
+use Rattle.std.specs.Option.{option_or}
 use Rattle.std.specs.Str.{bytes_eq}
 use Rattle.xs_base.specs.Readers as readers
 use Rattle.xs_base.specs.Readers.{head_is, tail}
@@ -10,10 +11,10 @@ use Rattle.xs_script.specs.declared.token.Mark.TheVariants as mark
 use Rattle.xs_script.specs.declared.token.Kind.{Kind}
 use Rattle.xs_script.specs.declared.token.Kind.TheVariants as kind
 use Rattle.xs_script.specs.declared.token.Stop.{Stop}
-use Rattle.xs_script.specs.declared.token.Stop.TheVariants as stop
 use Rattle.xs_script.specs.declared.scope.Scope.{Scope}
 use Rattle.xs_script.specs.declared.cursor.Met.{Met}
-use Rattle.xs_script.specs.Scope.{is_alive}
+use Rattle.xs_script.specs.Scope.{first_unknown}
+use Rattle.xs_script.specs.Telling.{NoReading, TellsBy}
 
 -- The parts that are left of a line, what the lines before have declared, and what was met so far that no reading can mend:
 -- the first unknown variable, the first number out of range, and the most brackets that stood open.
@@ -83,10 +84,6 @@ left i = length i.rest
 
 -- ---- readers of a line
 
--- what is given where there is no reading
-abbrev pub NoReading : Type 0
-NoReading = Unit {0}
-
 abbrev pub Outcome : Type 0 → Type 0
 Outcome A = readers.Outcome Input NoReading A
 
@@ -111,11 +108,7 @@ abbrev pub eat : Mark → Reader Bool
 eat m = λ i. Ok (sees m i, after m i)
 
 unfoldable pub expect : Mark → Reader (Unit {0})
-expect m = λ i. if sees m i then Ok (tt, next i) else Err tt
-
--- a fact of what is left
-abbrev pub told : Bool → Reader Bool
-told b = λ i. Ok (b, i)
+expect m = λ i. if sees m i then Ok (tt, next i) else refuse i
 
 -- the line ends here
 abbrev pub ended : Kind → Reader (Unit {0})
@@ -145,7 +138,7 @@ bytes_at k (t ∷ ts) = bytes_in k t
 
 abbrev pub taken : Option (List ℕ) → Input → Outcome (List ℕ)
 taken (Some bytes) i = Ok (bytes, next i)
-taken None i = Err tt
+taken None i = refuse i
 
 -- the bytes of the next part, which is of this kind
 unfoldable pub part : Kind → Reader (List ℕ)
@@ -160,27 +153,20 @@ names_sub kind.End = false
 
 -- the name of a sub: a name, or a text in quotes
 unfoldable pub sub_name : Reader (List ℕ)
-sub_name = λ i. if names_sub (kind_of i) then part (kind_of i) i else Err tt
+sub_name = λ i. if names_sub (kind_of i) then part (kind_of i) i else refuse i
 
 -- ---- what no reading can mend
 
-abbrev pub or_else : Option (List ℕ) → Option (List ℕ) → Option (List ℕ)
-or_else (Some first) second = Some first
-or_else None second = second
-
-abbrev pub unless : Bool → List ℕ → Option (List ℕ)
-unless b name = if b then None else Some name
-
 -- a variable is named
 unfoldable pub named : List ℕ → Input → Input
-named name i = record i { unknown = or_else i.unknown (unless (is_alive i.scope name) name) }
+named name i = record i { unknown = option_or i.unknown (first_unknown i.scope (name ∷ [])) }
 
 abbrev pub noted : (Input → Input) → Reader (Unit {0})
 noted note = λ i. Ok (tt, note i)
 
 -- a number stands that is out of its range
 unfoldable pub exceeded : List ℕ → Input → Input
-exceeded number i = record i { beyond = or_else i.beyond (Some number) }
+exceeded number i = record i { beyond = option_or i.beyond (Some number) }
 
 -- so many brackets stand open
 unfoldable pub opened : ℕ → Input → Input
@@ -193,6 +179,4 @@ met i = record { unknown = i.unknown; beyond = i.beyond; deepest = i.deepest }
 -- ---- what a function that reads ensures
 
 abbrev pub Reads : {X A : Type 0} → (X → A) → Outcome A → Result X Stop → Input → Type 0
-Reads view outcome (Ok x) new = outcome ≡ Ok (view x, new)
-Reads view outcome (Err stop.Unread) new = outcome ≡ Err tt
-Reads view outcome (Err stop.Memory) new = Unit {0}
+Reads view outcome result new = TellsBy (λ x. (view x, new)) result outcome

@@ -1,12 +1,14 @@
 -- The parts of a line.
-use Rattle.std.specs.Prelude.{ℕ, zero, suc, ◌+◌, ◌*◌, ◌-◌, Bool, false, not, ◌&&◌, ◌||◌, ◌==◌, if◌then◌else◌, nat_le, List, [], ◌∷◌, ◌++◌, length, Option, Some, None, Result, Ok, Err}
+use Rattle.std.specs.Bool.{then_some}
+use Rattle.std.specs.Char.{digit_value}
+use Rattle.std.specs.Option.{option_map, option_map_or, option_to_list}
+use Rattle.std.specs.Prelude.{ℕ, zero, suc, ◌+◌, ◌*◌, ◌-◌, Bool, false, not, ◌&&◌, ◌||◌, ◌==◌, if◌then◌else◌, nat_lt, List, [], ◌∷◌, ◌++◌, codes, length, Option, Some, None, Result, Ok, Err}
 use Rattle.xs_base.specs.Names.{is_qualified_name}
-use Rattle.xs_base.specs.Readers.{head_is}
 use Rattle.xs_base.specs.Runs.{behind, front_of}
-use Rattle.xs_base.specs.Scanning.{begins_word, is_blank, is_digit}
+use Rattle.xs_base.specs.Scanning.{begins_with, begins_word, is_blank, is_digit}
 use Rattle.xs_base.specs.declared.runs.ByteClass.TheVariants.{Digit, Name}
-use Rattle.xs_script.specs.Fronts.{with_front}
-use Rattle.xs_script.specs.Input.{NoReading}
+use Rattle.xs_base.specs.Reading.{with_front}
+use Rattle.xs_script.specs.Telling.{NoReading}
 use Rattle.xs_script.specs.declared.token.Token.{Token}
 use Rattle.xs_script.specs.declared.token.Token.TheVariants as token
 use Rattle.xs_script.specs.declared.token.Mark.{Mark}
@@ -20,16 +22,13 @@ use Rattle.xs_script.specs.declared.lexing.TextPlace.TheVariants as text
 
 -- the value of a hexadecimal digit of either case
 abbrev pub hex_value : ℕ → Option ℕ
-hex_value b =
-    if nat_le 48 b && nat_le b 57 then Some (b - 48)
-    else (if nat_le 65 b && nat_le b 70 then Some (b - 55)
-    else (if nat_le 97 b && nat_le b 102 then Some (b - 87) else None))
+hex_value b = then_some (nat_lt (digit_value b) 16) (digit_value b)
 
 -- ---- names
 
 -- A name with what stands behind it. A number right behind it begins with its sign, since a digit would belong to the name.
 abbrev pub name_before : List ℕ → List ℕ → Front
-name_before name after = if is_qualified_name name && not (head_is (λ b. b == 45) after) then front.Piece (token.Name name) (length name) else front.Nothing
+name_before name after = if is_qualified_name name && not (begins_with (codes "-") after) then front.Piece (token.Name name) (length name) else front.Nothing
 
 abbrev pub name_front : List ℕ → Front
 name_front bytes = name_before (front_of Name bytes) (behind Name bytes)
@@ -51,28 +50,21 @@ number_front sign after = signed_number sign (front_of Digit after)
 abbrev pub escape_value : ℕ → Option ℕ
 escape_value b = if b == 34 || b == 92 then Some b else (if b == 110 then Some 10 else (if b == 116 then Some 9 else None))
 
-abbrev pub plainly : Option ℕ → Option (TextPlace × Option ℕ)
-plainly (Some value) = Some (text.Plain, Some value)
-plainly None = None
+abbrev pub plainly : ℕ → TextPlace × Option ℕ
+plainly value = (text.Plain, Some value)
 
-abbrev pub high_digit : Option ℕ → Option (TextPlace × Option ℕ)
-high_digit (Some high) = Some (text.Low high, None)
-high_digit None = None
+abbrev pub high_digit : ℕ → TextPlace × Option ℕ
+high_digit high = (text.Low high, None)
 
-abbrev pub low_digit : ℕ → Option ℕ → Option (TextPlace × Option ℕ)
-low_digit high (Some low) = Some (text.Plain, Some (16 * high + low))
-low_digit high None = None
+abbrev pub low_digit : ℕ → ℕ → TextPlace × Option ℕ
+low_digit high low = plainly (16 * high + low)
 
 -- where reading of a text comes to behind this byte, and the byte of the text that ends there
 abbrev pub text_step : TextPlace → ℕ → Option (TextPlace × Option ℕ)
 text_step text.Plain b = if b == 92 then Some (text.Escape, None) else Some (text.Plain, Some b)
-text_step text.Escape b = if b == 120 then Some (text.High, None) else plainly (escape_value b)
-text_step text.High b = high_digit (hex_value b)
-text_step (text.Low high) b = low_digit high (hex_value b)
-
-abbrev pub listed : Option ℕ → List ℕ
-listed None = []
-listed (Some b) = b ∷ []
+text_step text.Escape b = if b == 120 then Some (text.High, None) else option_map plainly (escape_value b)
+text_step text.High b = option_map high_digit (hex_value b)
+text_step (text.Low high) b = option_map (low_digit high) (hex_value b)
 
 abbrev pub closes : TextPlace → ℕ → Bool
 closes text.Plain b = b == 34
@@ -81,8 +73,7 @@ closes text.High b = false
 closes (text.Low high) b = false
 
 abbrev pub on_step : Option (TextPlace × Option ℕ) → (TextPlace → List ℕ → Front) → Front
-on_step None go = front.Nothing
-on_step (Some next) go = go next.0 (listed next.1)
+on_step step go = option_map_or (λ (next : TextPlace × Option ℕ). go next.0 (option_to_list next.1)) step front.Nothing
 
 -- A text, of which so many bytes were read and stand for these bytes, from this place on.
 abbrev pub text_front : TextPlace → List ℕ → ℕ → List ℕ → Front
@@ -107,11 +98,10 @@ single b =
     else (if b == 92 then Some mark.Backslash else None)))))))))
 
 abbrev pub alone : Option Mark → Front
-alone (Some m) = front.Piece (token.Mark m) 1
-alone None = front.Nothing
+alone found = option_map_or (λ m. front.Piece (token.Mark m) 1) found front.Nothing
 
 abbrev pub mark_front : ℕ → List ℕ → Front
-mark_front b after = if b == 61 && head_is (λ c. c == 62) after then front.Piece (token.Mark mark.Arrow) 2 else alone (single b)
+mark_front b after = if b == 61 && begins_with (codes ">") after then front.Piece (token.Mark mark.Arrow) 2 else alone (single b)
 
 -- ---- lines
 

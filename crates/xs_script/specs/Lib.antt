@@ -1,6 +1,5 @@
 pub mod ValueText
 pub mod Telling
-pub mod Fronts
 pub mod Fits
 pub mod Lex
 pub mod Spelling

@@ -1,4 +1,5 @@
 -- What the commands as they are written mean, and what is at fault in them.
+use Rattle.std.specs.List.{slice_get}
 use Rattle.std.specs.Prelude.{◌≡◌, ℕ, suc, ◌+◌, true, false, if◌then◌else◌, nat_lt, max, List, [], ◌∷◌, ◌++◌, map, Option, None, Some, Result, Ok, Err, unwrap_or, pos}
 use Rattle.xs_base.specs.declared.fault.Fault.{Fault}
 use Rattle.std.specs.declared.alloc.Global.{Global}
@@ -18,9 +19,9 @@ use Rattle.xs_script.specs.Form as f
 use Rattle.xs_script.specs.Form.{Form, Forms, Pairs, Deed, Written}
 use Rattle.xs_script.specs.Grammar as g
 use Rattle.xs_script.specs.Numbers.{number_of, argument_of}
-use Rattle.xs_script.specs.Scope.{is_alive}
+use Rattle.xs_script.specs.Scope.{first_unknown}
 use Rattle.xs_script.specs.Script.{first_fault, faulty, is_skipped, fault, behind, empty_scope}
-use Rattle.xs_script.specs.Fronts.{with_front}
+use Rattle.xs_base.specs.Reading.{with_front}
 use Rattle.xs_script.specs.Spelling.{Spelled}
 use Rattle.xs_script.specs.Value.{max_nesting}
 use Rattle.xs_script.specs.View.{said_all}
@@ -48,21 +49,18 @@ abbrev mutual
   made_pairs d f.NoPair = []
   made_pairs d (f.MorePairs k e ps) = (k, made d e) ∷ made_pairs d ps
 
-abbrev pub made_args : List Form → List Expr
-made_args es = map (made 0) es
-
 abbrev pub act_of : Deed → Act
 act_of (f.Push e) = p.Push (made 0 e)
 act_of (f.Set k e) = p.Set (unwrap_or (argument_of k) 0) (made 0 e)
-act_of (f.Call n es) = p.Call n (made_args es)
+act_of (f.Call n es) = p.Call n (made_list 0 es)
 act_of (f.Die content) = p.Die content
 
 -- what a command on a line means
 abbrev pub said_of : ℕ → Written → Said
 said_of line (f.My n e) = p.My line n (made 0 e)
-said_of line (f.MyCall n m es) = p.MyCall line n m (made_args es)
+said_of line (f.MyCall n m es) = p.MyCall line n m (made_list 0 es)
 said_of line (f.Ro n) = p.Ro line n
-said_of line (f.CallSub n es) = p.CallSub line n (made_args es)
+said_of line (f.CallSub n es) = p.CallSub line n (made_list 0 es)
 said_of line (f.Show n) = p.Show line n
 said_of line (f.Drop n) = p.Drop line n
 said_of line (f.Isa n m) = p.Isa line n m
@@ -118,39 +116,27 @@ abbrev mutual
   contents_pairs d f.NoPair = nothing
   contents_pairs d (f.MorePairs k e ps) = both (contents d e) (contents_pairs d ps)
 
-abbrev pub contents_args : List Form → Contents
-contents_args es = in_all (contents 0) es
-
 abbrev pub contents_deed : Deed → Contents
 contents_deed (f.Push e) = contents 0 e
 contents_deed (f.Set k e) = both (one_number (argument_of k) k) (contents 0 e)
-contents_deed (f.Call n es) = contents_args es
+contents_deed (f.Call n es) = contents_list 0 es
 contents_deed (f.Die content) = nothing
 
 abbrev pub contents_of : Written → Contents
 contents_of (f.My n e) = contents 0 e
-contents_of (f.MyCall n m es) = contents_args es
+contents_of (f.MyCall n m es) = contents_list 0 es
 contents_of (f.Ro n) = one_variable n
-contents_of (f.CallSub n es) = contents_args es
+contents_of (f.CallSub n es) = contents_list 0 es
 contents_of (f.Show n) = one_variable n
 contents_of (f.Drop n) = one_variable n
 contents_of (f.Isa n m) = nothing
 contents_of (f.Sub n ds) = in_all contents_deed ds
 
--- the first that is not declared, or was dropped
-abbrev pub first_unknown : Scope → List (List ℕ) → Option (List ℕ)
-first_unknown scope [] = None
-first_unknown scope (n ∷ ns) = if is_alive scope n then first_unknown scope ns else Some n
-
-abbrev pub first : List (List ℕ) → Option (List ℕ)
-first [] = None
-first (text ∷ texts) = Some text
-
 -- ---- lines and scripts
 
 -- what is at fault in a command although it has a reading
 abbrev pub met_in : Scope → Written → Met
-met_in scope c = record { unknown = first_unknown scope (contents_of c).variables; beyond = first (contents_of c).excess; deepest = (contents_of c).reach }
+met_in scope c = record { unknown = first_unknown scope (contents_of c).variables; beyond = slice_get (contents_of c).excess 0; deepest = (contents_of c).reach }
 
 -- a command that is written on a line, or its first fault
 abbrev pub judge : Scope → ℕ → Written → Result (Option Said) Fault

@@ -1,6 +1,7 @@
 -- Commands and actions.
 use Rattle.std.specs.Prelude.{ℕ, zero, suc, Bool, true, false, if◌then◌else◌, List, [], ◌∷◌, ◌++◌, codes, ◌&&◌}
 use Rattle.xs_script.specs.declared.token.Kind.TheVariants as kind
+use Rattle.xs_script.specs.declared.token.Mark.{Mark}
 use Rattle.xs_script.specs.declared.token.Mark.TheVariants as mark
 use Rattle.xs_script.specs.Expr as p
 use Rattle.xs_script.specs.Expr.{Expr, Act, Said}
@@ -9,13 +10,17 @@ use Rattle.xs_base.specs.Readers.{◌>>=◌, ◌>>◌, ◌<$>◌, pure}
 use Rattle.xs_script.specs.Input.{Input, Reader, refuse, eat, eat_word, expect, sees_word, kind_of, next, left, names_sub}
 use Rattle.xs_script.specs.Value.{value, variable, argument}
 
--- the arguments of a call behind the opening parenthesis and its first argument; each takes a part, so that the count of the parts is enough
-unfoldable pub arguments_from : Bool → ℕ → List Expr → Reader (List Expr)
-arguments_from in_sub zero all = refuse
-arguments_from in_sub (suc n) all = do
-  e ← value in_sub
-  more ← eat mark.Comma
-  if more then arguments_from in_sub n (all ++ e ∷ []) else (expect mark.CloseRound >> pure (all ++ e ∷ []))
+-- one or more with a mark between them, and what follows the last; each takes a part, so that the count of the parts is enough
+unfoldable pub listed : {A : Type 0} → Reader A → Mark → Reader (Unit {0}) → ℕ → List A → Reader (List A)
+listed one between end zero all = refuse
+listed one between end (suc n) all = do
+  a ← one
+  more ← eat between
+  if more then listed one between end n (all ++ a ∷ []) else (end >> pure (all ++ a ∷ []))
+
+-- the arguments of a call behind the opening parenthesis
+abbrev pub arguments_from : Bool → ℕ → List Expr → Reader (List Expr)
+arguments_from in_sub = listed (value in_sub) mark.Comma (expect mark.CloseRound)
 
 unfoldable pub some_arguments : Bool → Reader (List Expr)
 some_arguments in_sub = λ input. arguments_from in_sub (left input) [] input
@@ -54,12 +59,8 @@ action = do
         if is_die then p.Die <$> i.part kind.Text else refuse)))
 
 -- the actions of a sub
-unfoldable pub actions_from : ℕ → List Act → Reader (List Act)
-actions_from zero all = refuse
-actions_from (suc n) all = do
-  a ← action
-  more ← eat mark.Semicolon
-  if more then actions_from n (all ++ a ∷ []) else pure (all ++ a ∷ [])
+abbrev pub actions_from : ℕ → List Act → Reader (List Act)
+actions_from = listed action mark.Semicolon (pure tt)
 
 unfoldable pub actions : Reader (List Act)
 actions = λ input. actions_from (left input) [] input
@@ -72,7 +73,7 @@ unfoldable pub my_command : ℕ → Reader Said
 my_command line = do
   name ← i.part kind.Name
   expect mark.Equals
-  is_call ← (λ input. i.told (sees_call input) input)
+  is_call ← (λ input. pure (sees_call input) input)
   if is_call then (eat_word (codes "call") >> ((λ (c : List ℕ × List Expr). p.MyCall line name c.0 c.1) <$> call false)) else p.My line name <$> value false
 
 unfoldable pub isa_command : ℕ → Reader Said

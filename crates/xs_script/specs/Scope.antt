@@ -1,12 +1,13 @@
 -- What the commands so far have declared.
-use Rattle.std.specs.Prelude.{ℕ, Bool, not, ◌&&◌, List}
-use Rattle.std.specs.List.{list_any}
-use Rattle.std.specs.Str.{bytes_eq}
+use Rattle.std.specs.Prelude.{ℕ, Bool, not, ◌&&◌, List, Option}
+use Rattle.std.specs.List.{find}
+use Rattle.xs_base.specs.Names.{is_among}
 use Rattle.xs_script.specs.declared.scope.Scope.{Scope}
-
-abbrev pub holds : List (List ℕ) → List ℕ → Bool
-holds names name = list_any (λ n. bytes_eq n name) names
 
 -- a variable that was declared and not dropped
 abbrev pub is_alive : Scope → List ℕ → Bool
-is_alive scope name = holds scope.variables name && not (holds scope.dropped name)
+is_alive scope name = is_among scope.variables name && not (is_among scope.dropped name)
+
+-- the first that is not declared, or was dropped
+abbrev pub first_unknown : Scope → List (List ℕ) → Option (List ℕ)
+first_unknown scope names = find (λ n. not (is_alive scope n)) names

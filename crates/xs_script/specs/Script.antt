@@ -1,7 +1,8 @@
 -- Lines and scripts, with their first faults.
-use Rattle.std.specs.Prelude.{◌≡◌, ℕ, ◌+◌, ◌==◌, Bool, true, false, ◌||◌, if◌then◌else◌, nat_lt, nat_le, List, [], ◌∷◌, ◌++◌, length, Option, None, Some, Result, Ok, Err}
+use Rattle.std.specs.Prelude.{◌≡◌, ℕ, ◌+◌, Bool, false, ◌||◌, if◌then◌else◌, nat_lt, nat_le, List, [], ◌∷◌, ◌++◌, length, Option, None, Some, Result, Ok, Err}
+use Rattle.std.specs.Bool.{then_some}
 use Rattle.xs_base.specs.Lines.{lines_of}
-use Rattle.xs_base.specs.Reading.{◌>>=◌}
+use Rattle.xs_base.specs.Reading.{◌>>=◌, fault_in, with_front}
 use Rattle.xs_base.specs.declared.fault.Fault.{Fault}
 use Rattle.xs_base.specs.declared.place.FileOf.TheVariants as file
 use Rattle.xs_base.specs.declared.place.Line.{Line}
@@ -9,17 +10,17 @@ use Rattle.xs_script.specs.declared.cursor.Met.{Met}
 use Rattle.xs_script.specs.declared.scope.Scope.{Scope}
 use Rattle.xs_script.specs.declared.command.Command.{Command}
 use Rattle.xs_script.specs.declared.token.Stop.{Stop}
-use Rattle.xs_script.specs.declared.token.Stop.TheVariants as stop
 use Rattle.xs_script.specs.declared.token.Token.{Token}
 use Rattle.xs_script.specs.View.{said}
 use Rattle.xs_script.specs.Expr as p
 use Rattle.xs_script.specs.Expr.{Said}
-use Rattle.xs_script.specs.Input.{Input, NoReading, Outcome, start_of, met}
-use Rattle.xs_base.specs.Runs.{behind_blanks}
-use Rattle.xs_script.specs.Fronts.{with_front}
+use Rattle.xs_script.specs.Input.{Input, Outcome, start_of, met}
+use Rattle.xs_script.specs.Telling.{NoReading, Stops}
+use Rattle.xs_base.specs.Names.{is_among}
+use Rattle.xs_base.specs.Runs.{is_remark}
+use Rattle.xs_base.specs.Scanning.{is_blank_line}
 use Rattle.xs_script.specs.Lex.{tokens_of}
 use Rattle.xs_script.specs.Rules.{command}
-use Rattle.xs_script.specs.Scope.{holds}
 use Rattle.xs_script.specs.Value.{max_nesting}
 
 -- ---- limits
@@ -63,7 +64,7 @@ behind (p.Sub line sub actions) scope = one_more (with_sub sub scope)
 -- ---- faults of a line that has a reading
 
 abbrev pub if_held : List (List ℕ) → List ℕ → Option (List ℕ)
-if_held names name = if holds names name then Some name else None
+if_held names name = then_some (is_among names name) name
 
 -- A variable or a sub that was declared before. The two have names apart.
 abbrev pub twice : Scope → Said → Option (List ℕ)
@@ -90,8 +91,9 @@ is_over scope (p.Sub line sub actions) = nat_le max_subs (length scope.subs)
 abbrev pub is_full : Scope → Said → Bool
 is_full scope said = is_over scope said || nat_le max_commands scope.commands
 
+-- a fault of the script
 abbrev pub fault : ℕ → ℕ → List ℕ → Fault
-fault line code word = record { file = file.Script; line = line; code = code; word = word }
+fault = fault_in file.Script
 
 -- a fault with its word, or what comes where there is none
 abbrev pub word_or : ℕ → ℕ → Option (List ℕ) → Option Fault → Option Fault
@@ -113,14 +115,9 @@ first_fault scope line said met =
 
 -- ---- lines
 
--- nothing, or what begins with `#`
-abbrev pub is_remark : List ℕ → Bool
-is_remark [] = true
-is_remark (b ∷ bs) = b == 35
-
 -- a line without a command: empty but for blanks, or with a `#` behind its blanks
 abbrev pub is_skipped : List ℕ → Bool
-is_skipped text = is_remark (behind_blanks text)
+is_skipped text = is_blank_line text || is_remark text
 
 abbrev pub faulty : Option Fault → Said → Result (Option Said) Fault
 faulty (Some f) said = Err f
@@ -140,8 +137,7 @@ reading_of scope line = read_parts scope line.number (tokens_of line.text)
 -- What a call that reads a line ensures: the command and what was met, or that there is no reading.
 abbrev pub ReadsLine : Result (Command × Met) Stop → Outcome Said → Type 0
 ReadsLine (Ok read) outcome = (i : Input) × (outcome ≡ Ok (said read.0, i)) × (met i ≡ read.1)
-ReadsLine (Err stop.Unread) outcome = outcome ≡ Err tt
-ReadsLine (Err stop.Memory) outcome = Unit {0}
+ReadsLine (Err why) outcome = Stops why outcome
 
 -- the command of a line, if it has one, or its first fault
 unfoldable pub line_of : Scope → Line → Result (Option Said) Fault

@@ -1,6 +1,6 @@
 -- How the parts of a line are spelled, by rules.
 use Rattle.std.specs.List.{list_all}
-use Rattle.std.specs.Prelude.{◌≡◌, ℕ, ◌+◌, ◌*◌, ◌==◌, Bool, true, false, ◌&&◌, List, [], ◌∷◌, ◌++◌, Some}
+use Rattle.std.specs.Prelude.{◌≡◌, ℕ, ◌+◌, ◌*◌, ◌==◌, Bool, true, false, ◌&&◌, List, [], ◌∷◌, ◌++◌, codes, Some}
 use Rattle.xs_script.specs.declared.token.Token.{Token}
 use Rattle.xs_script.specs.declared.token.Token.TheVariants as token
 use Rattle.xs_script.specs.declared.token.Mark.{Mark}
@@ -8,7 +8,7 @@ use Rattle.xs_script.specs.declared.token.Mark.TheVariants as mark
 use Rattle.xs_base.specs.Names.{IsJoined}
 use Rattle.xs_base.specs.Readers.{head_is}
 use Rattle.xs_base.specs.Runs.{belongs}
-use Rattle.xs_base.specs.Scanning.{is_blank, is_digit}
+use Rattle.xs_base.specs.Scanning.{begins_with, is_blank, is_digit}
 use Rattle.xs_base.specs.declared.runs.ByteClass.TheVariants.{Name}
 use Rattle.xs_script.specs.Input.{mark_byte}
 use Rattle.xs_script.specs.Lex.{hex_value, escape_value}
@@ -31,14 +31,14 @@ mark_text m = mark_byte m ∷ []
 
 -- `=>` is one part
 abbrev pub goes_on : Mark → List ℕ → Bool
-goes_on m bs = mark_byte m == 61 && head_is (λ b. b == 62) bs
+goes_on m bs = mark_byte m == 61 && begins_with (codes ">") bs
 
 -- The parts are spelled by these bytes. A name ends where no letter, digit, `_` or `:` follows, and no sign of a number may
 -- follow it; a number ends where no digit follows.
 pub data Spelled : List Token → List ℕ → Type 0 where
   line_end : Spelled [] []
   blank : {ts : List Token} {b : ℕ} {bs : List ℕ} → is_blank b ≡ true → Spelled ts bs → Spelled ts (b ∷ bs)
-  name : {ts : List Token} {n bs : List ℕ} → IsJoined n → head_is (belongs Name) bs ≡ false → head_is (λ b. b == 45) bs ≡ false → Spelled ts bs → Spelled (token.Name n ∷ ts) (n ++ bs)
+  name : {ts : List Token} {n bs : List ℕ} → IsJoined n → head_is (belongs Name) bs ≡ false → begins_with (codes "-") bs ≡ false → Spelled ts bs → Spelled (token.Name n ∷ ts) (n ++ bs)
   number : {ts : List Token} {ds bs : List ℕ} → IsDigits ds → head_is is_digit bs ≡ false → Spelled ts bs → Spelled (token.Number ds ∷ ts) (ds ++ bs)
   negative : {ts : List Token} {ds bs : List ℕ} → IsDigits ds → head_is is_digit bs ≡ false → Spelled ts bs → Spelled (token.Number (45 ∷ ds) ∷ ts) (45 ∷ ds ++ bs)
   text : {ts : List Token} {s cs bs : List ℕ} → StandFor s cs → Spelled ts bs → Spelled (token.Text cs ∷ ts) (34 ∷ s ++ 34 ∷ bs)

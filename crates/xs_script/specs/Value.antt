@@ -4,6 +4,7 @@ use Rattle.xs_script.specs.declared.command.Number.{Number}
 use Rattle.xs_script.specs.declared.command.Number.TheVariants as number
 use Rattle.xs_script.specs.declared.token.Kind.{Kind}
 use Rattle.xs_script.specs.declared.token.Kind.TheVariants as kind
+use Rattle.xs_script.specs.declared.token.Mark.{Mark}
 use Rattle.xs_script.specs.declared.token.Mark.TheVariants as mark
 use Rattle.xs_script.specs.Expr as p
 use Rattle.xs_script.specs.Expr.{Expr, exprs_of, entries_of}
@@ -72,15 +73,23 @@ pub record Partial : Type 0 where
   pub around : List Bracket
   pub ended : Option Expr
 
+-- an expression begins here
+abbrev pub begins : List Bracket → Partial
+begins around = record { around = around; ended = None }
+
+-- an expression has ended here
+abbrev pub ends : List Bracket → Expr → Partial
+ends around e = record { around = around; ended = Some e }
+
 -- What a bracket that closes has made. What is nested too deep is not kept.
 abbrev pub kept : List Bracket → Expr → Expr
 kept around e = if nat_lt (length around) max_nesting then e else p.Undef
 
 abbrev pub finished : List Bracket → Expr → Partial
-finished around e = record { around = around; ended = Some (kept around e) }
+finished around e = ends around (kept around e)
 
 abbrev pub inside : Bracket → List Bracket → Partial
-inside bracket around = record { around = bracket ∷ around; ended = None }
+inside bracket around = begins (bracket ∷ around)
 
 -- a key and its arrow
 unfoldable pub key : Reader (List ℕ)
@@ -89,41 +98,54 @@ key = do
   expect mark.Arrow
   pure name
 
+-- a key of a hash, whose value begins behind the arrow
+abbrev pub keyed : List (List ℕ × Expr) → List Bracket → Reader Partial
+keyed entries around = do
+  name ← key
+  pure (inside (InHash entries name) around)
+
+-- behind an opening bracket: it closes again, or the first of what stands in it begins
+abbrev pub in_bracket : Mark → Expr → Reader Partial → List Bracket → Reader Partial
+in_bracket closing empty first around = do
+  noted (opened (length around + 1))
+  is_empty ← eat closing
+  if is_empty then pure (finished around empty) else first
+
 -- behind `[`
 unfoldable pub in_square : List Bracket → Reader Partial
-in_square around = do
-  noted (opened (length around + 1))
-  is_empty ← eat mark.CloseSquare
-  if is_empty then pure (finished around (p.ListOf p.NoMore)) else pure (inside (InList []) around)
+in_square around = in_bracket mark.CloseSquare (p.ListOf p.NoMore) (pure (inside (InList []) around)) around
 
 -- behind `{`
 unfoldable pub in_curly : List Bracket → Reader Partial
-in_curly around = do
-  noted (opened (length around + 1))
-  is_empty ← eat mark.CloseCurly
-  if is_empty then pure (finished around (p.HashOf p.NoEntry)) else (do name ← key; pure (inside (InHash [] name) around))
+in_curly around = in_bracket mark.CloseCurly (p.HashOf p.NoEntry) (keyed [] around) around
+
+-- where an expression begins that is no list
+abbrev pub begin_other : Bool → List Bracket → Reader Partial
+begin_other in_sub around = do
+  is_hash ← eat mark.OpenCurly
+  if is_hash then in_curly around else (ends around <$> simple in_sub)
 
 -- where an expression begins
 unfoldable pub begin : Bool → List Bracket → Reader Partial
 begin in_sub around = do
   is_list ← eat mark.OpenSquare
-  if is_list then in_square around else (do
-    is_hash ← eat mark.OpenCurly
-    if is_hash then in_curly around else (do e ← simple in_sub; pure (record { around = around; ended = Some e })))
+  if is_list then in_square around else begin_other in_sub around
+
+-- where an expression has ended in a bracket: the next begins, or the bracket closes
+abbrev pub goes_on : Mark → Reader Partial → Expr → List Bracket → Reader Partial
+goes_on closing again whole around = do
+  more ← eat mark.Comma
+  if more then again else (expect closing >> pure (finished around whole))
 
 -- where an expression has ended in a list
 unfoldable pub follow_list : List Expr → List Bracket → Reader Partial
-follow_list items around = do
-  more ← eat mark.Comma
-  if more then pure (inside (InList items) around) else (expect mark.CloseSquare >> pure (finished around (p.ListOf (exprs_of items))))
+follow_list items around = goes_on mark.CloseSquare (pure (inside (InList items) around)) (p.ListOf (exprs_of items)) around
 
 -- where an expression has ended in a hash
 unfoldable pub follow_hash : List (List ℕ × Expr) → List Bracket → Reader Partial
-follow_hash entries around = do
-  more ← eat mark.Comma
-  if more then (do name ← key; pure (inside (InHash entries name) around)) else (expect mark.CloseCurly >> pure (finished around (p.HashOf (entries_of entries))))
+follow_hash entries around = goes_on mark.CloseCurly (keyed entries around) (p.HashOf (entries_of entries)) around
 
--- where an expression has ended in a bracket
+-- where an expression has ended in this bracket
 abbrev pub follow : Bracket → Expr → List Bracket → Reader Partial
 follow (InList items) e around = follow_list (items ++ e ∷ []) around
 follow (InHash entries name) e around = follow_hash (entries ++ (name, e) ∷ []) around
@@ -138,9 +160,6 @@ unfoldable pub turns : Bool → ℕ → Partial → Reader Expr
 turns in_sub zero partial = refuse
 turns in_sub (suc n) partial = step in_sub partial.ended partial.around (turns in_sub n)
 
-abbrev pub at_start : Partial
-at_start = record { around = []; ended = None }
-
 -- an expression, in a sub or outside
 unfoldable pub value : Bool → Reader Expr
-value in_sub = λ input. turns in_sub (left input + 1) at_start input
+value in_sub = λ input. turns in_sub (left input + 1) (begins []) input

@@ -1,13 +1,10 @@
 -- The text that shows a plain value.
-use Rattle.std.specs.Fmt.{decimal, signed_decimal}
+use Rattle.std.specs.Char.{digit_char}
 use Rattle.std.specs.List.{flat_map}
-use Rattle.std.specs.Prelude.{ℕ, ◌+◌, ◌/◌, ◌%◌, ◌==◌, ◌&&◌, nat_lt, nat_le, if◌then◌else◌, List, [], ◌∷◌, ◌++◌, length, take, codes}
+use Rattle.std.specs.Prelude.{ℕ, ◌/◌, ◌%◌, ◌==◌, ◌&&◌, nat_lt, nat_le, if◌then◌else◌, List, [], ◌∷◌, ◌++◌, length, take, codes}
+use Rattle.xs_values.specs.Plains.{text_of}
 use Rattle.xs_values.specs.declared.plain.Plain.{Plain}
 use Rattle.xs_values.specs.declared.plain.Plain.TheVariants.{Undef, Int, Uns, Text}
-
--- a hexadecimal digit in lower case
-abbrev pub hex_digit : ℕ → ℕ
-hex_digit d = if nat_lt d 10 then 48 + d else 87 + d
 
 -- A byte of a text in quotes: a quote and a backslash behind a backslash, 32 to 126 as they are, others by \x and two digits.
 abbrev pub shown_byte : ℕ → List ℕ
@@ -15,7 +12,7 @@ shown_byte b =
     if b == 34 then codes "\\\""
     else (if b == 92 then codes "\\\\"
     else (if nat_le 32 b && nat_le b 126 then b ∷ []
-    else codes "\\x" ++ hex_digit (b / 16) ∷ hex_digit (b % 16) ∷ []))
+    else codes "\\x" ++ digit_char (b / 16) ∷ digit_char (b % 16) ∷ []))
 
 -- A text in quotes. After 64 bytes of the text the quote closes and two dots follow.
 abbrev pub quoted_text : List ℕ → List ℕ
@@ -23,6 +20,6 @@ quoted_text text = codes "\"" ++ flat_map shown_byte (take 64 text) ++ (if nat_l
 
 abbrev pub value_text_of : Plain → List ℕ
 value_text_of Undef = codes "undef"
-value_text_of (Int n) = signed_decimal n
-value_text_of (Uns n) = decimal n
+value_text_of (Int n) = text_of (Int n)
+value_text_of (Uns n) = text_of (Uns n)
 value_text_of (Text text) = quoted_text text

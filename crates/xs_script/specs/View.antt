@@ -26,14 +26,18 @@ plain_step (E-F.Argument k) = p.Argument k
 unfoldable pub plain : E → Expr
 plain = fold-E Expr plain_step
 
-abbrev pub act : Action → Act
-act (action.Push e) = p.Push (plain e)
-act (action.Set k e) = p.Set k (plain e)
-act (action.Call sub args) = p.Call sub (map plain args.items)
-act (action.Die text) = p.Die text
+-- a key of a hash with its value
+abbrev pub entry : List ℕ × E → List ℕ × Expr
+entry p = (p.0, plain p.1)
 
 abbrev pub exprs_in : Vec E Global → List Expr
 exprs_in es = map plain es.items
+
+abbrev pub act : Action → Act
+act (action.Push e) = p.Push (plain e)
+act (action.Set k e) = p.Set k (plain e)
+act (action.Call sub args) = p.Call sub (exprs_in args)
+act (action.Die text) = p.Die text
 
 abbrev pub call_of : List ℕ × Vec E Global → List ℕ × List Expr
 call_of c = (c.0, exprs_in c.1)
@@ -43,13 +47,13 @@ acts_of actions = map act actions.items
 
 abbrev pub said : Command → Said
 said (command.My line name e) = p.My line name (plain e)
-said (command.MyCall line name sub args) = p.MyCall line name sub (map plain args.items)
+said (command.MyCall line name sub args) = p.MyCall line name sub (exprs_in args)
 said (command.Ro line name) = p.Ro line name
-said (command.Call line sub args) = p.CallSub line sub (map plain args.items)
+said (command.Call line sub args) = p.CallSub line sub (exprs_in args)
 said (command.Show line name) = p.Show line name
 said (command.Drop line name) = p.Drop line name
 said (command.Isa line class parent) = p.Isa line class parent
-said (command.Sub line sub actions) = p.Sub line sub (map act actions.items)
+said (command.Sub line sub actions) = p.Sub line sub (acts_of actions)
 
 abbrev pub said_all : Vec Command Global → List Said
 said_all commands = map said commands.items

@@ -107,6 +107,7 @@ pub fn names_sub(kind: Kind) -> bool
 }
 
 impl<'a> Cursor<'a> {
+    /// The parts of a line, behind what the lines before have declared.
     pub fn new(rest: &'a [Token], scope: &'a Scope) -> Cursor<'a>
         ensures { result ≡ spec.start_of scope.now rest.now }
     {
@@ -129,6 +130,7 @@ impl<'a> Cursor<'a> {
         met
     }
 
+    /// How many parts are left.
     #[tactic(auto, unfolding(crate::specs::Input::left))]
     pub fn left(&self) -> usize
         ensures value { result ≡ spec.left self.now }
@@ -137,6 +139,7 @@ impl<'a> Cursor<'a> {
         self.rest.len()
     }
 
+    /// What kind of part comes next.
     #[tactic(auto, unfolding(crate::specs::Input::kind_of))]
     pub fn kind(&self) -> Kind
         ensures { result ≡ spec.kind_of self.now }
@@ -158,6 +161,7 @@ impl<'a> Cursor<'a> {
         }
     }
 
+    /// Whether this mark comes next.
     #[tactic(auto, unfolding(crate::specs::Input::sees))]
     pub fn sees(&self, mark: Mark) -> bool
         ensures { result ≡ spec.sees mark self.now }
@@ -168,6 +172,7 @@ impl<'a> Cursor<'a> {
         }
     }
 
+    /// Whether this word comes next.
     #[tactic(auto, unfolding(crate::specs::Input::sees_word))]
     pub fn sees_word(&self, word: &[u8]) -> bool
         ensures { result ≡ spec.sees_word word.now self.now }
@@ -190,6 +195,7 @@ impl<'a> Cursor<'a> {
         }
     }
 
+    /// Takes this mark, if it comes next.
     #[tactic(auto, unfolding(crate::specs::Input::after))]
     pub fn eat(&mut self, mark: Mark) -> bool
         ensures found { result ≡ spec.sees mark self.old }
@@ -200,6 +206,7 @@ impl<'a> Cursor<'a> {
         found
     }
 
+    /// Takes this word, if it comes next.
     #[tactic(auto, unfolding(crate::specs::Input::after_word))]
     pub fn eat_word(&mut self, word: &[u8]) -> bool
         ensures found { result ≡ spec.sees_word word.now self.old }
@@ -210,6 +217,7 @@ impl<'a> Cursor<'a> {
         found
     }
 
+    /// Takes this mark, which has to come next.
     #[tactic(auto, unfolding(crate::specs::Input::expect, crate::specs::Input::after))]
     pub fn expect(&mut self, mark: Mark) -> Result<(), Stop>
         ensures { Reads (λ u. u) (spec.expect mark self.old) result self.new }

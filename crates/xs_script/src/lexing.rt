@@ -1,6 +1,6 @@
 //! Cuts a line into the parts of a command.
+ghost use Rattle.std.specs.Option.{option_to_list};
 ghost use Rattle.std.specs.Prelude.{◌≡◌, [], ◌+◌, ◌++◌, ◌<◌, ◌==◌, ◌≤◌, IfOk, IfSome, OnOk, length};
-ghost use Rattle.xs_base.specs.Readers.{head_is};
 ghost use Rattle.xs_script.specs.Fits.{Fits, IsHexPlace};
 ghost use Rattle.xs_script.specs.Lex as spec;
 ghost use Rattle.xs_script.specs.declared.lexing.TextPlace.TheVariants as text;
@@ -9,7 +9,8 @@ ghost use Rattle.xs_script.specs.Telling.{Tells};
 use crate::token::{Front, Mark, Stop, Token};
 use std::alloc::Global;
 use xs_base::{
-    ByteClass, Bytes, Items, Memory, begins_word, cut_run, is_blank, is_digit, is_qualified_name,
+    ByteClass, Bytes, Items, Memory, begins_with, begins_word, cut_run, is_blank, is_digit,
+    is_qualified_name,
 };
 
 /// Which byte of a text in quotes comes next.
@@ -65,7 +66,7 @@ fn text_step(place: TextPlace, b: u8) -> Option<(TextPlace, Option<u8>)>
 }
 
 fn append_some(out: &mut Bytes, b: Option<u8>) -> Result<(), Memory>
-    ensures { OnOk result (out.new ≡ out.old ++ spec.listed b) }
+    ensures { OnOk result (out.new ≡ out.old ++ option_to_list b) }
 {
     match b {
         Some(b) => out.append(&[b]),
@@ -102,19 +103,10 @@ fn name_front(alloc: Global, bytes: &[u8]) -> Result<Front, Memory>
     ensures within { IfOk result (λ front. Fits front (length bytes.now)) }
 {
     let (name, after) = cut_run(ByteClass::Name, bytes);
-    if is_qualified_name(name) && !begins_with(b'-', after) {
+    if is_qualified_name(name) && !begins_with(b"-", after) {
         Ok(Front::Piece(Token::Name(Bytes::from_slice(alloc, name)?), name.len()))
     } else {
         Ok(Front::Nothing)
-    }
-}
-
-fn begins_with(b: u8, bytes: &[u8]) -> bool
-    ensures { result ≡ head_is (λ first. first == b) bytes.now }
-{
-    match bytes {
-        [first, ..] => *first == b,
-        [] => false,
     }
 }
 
@@ -155,7 +147,7 @@ fn mark_front(b: u8, after: &[u8]) -> Front
     ensures value { result ≡ spec.mark_front b after.now }
     ensures within { Fits result (length after.now + 1) }
 {
-    if b == b'=' && begins_with(b'>', after) {
+    if b == b'=' && begins_with(b">", after) {
         return Front::Piece(Token::Mark(Mark::Arrow), 2);
     }
     match single(b) {

@@ -6,13 +6,12 @@ ghost use Rattle.xs_script.specs.View.{act, acts_of, call_of, exprs_in, said};
 
 use crate::command::{Action, Command, E};
 use crate::cursor::{Cursor, names_sub};
-use crate::stop::add;
 use crate::token::{Kind, Mark, Stop};
 use crate::value::{argument, value, variable};
 use std::alloc::Global;
-use xs_base::Bytes;
+use xs_base::{Bytes, add};
 
-#[tactic(auto, using(crate::proofs::Views::views), unfolding(crate::specs::Rules::some_arguments, crate::specs::Rules::arguments_from))]
+#[tactic(auto, using(crate::proofs::Views::views), unfolding(crate::specs::Rules::some_arguments, crate::specs::Rules::listed))]
 fn some_arguments(alloc: Global, cursor: &mut Cursor<'_>, in_sub: bool) -> Result<Vec<E>, Stop>
     ensures { Reads exprs_in (spec.some_arguments in_sub cursor.old) result cursor.new }
 {
@@ -72,7 +71,7 @@ fn action(alloc: Global, cursor: &mut Cursor<'_>) -> Result<Action, Stop>
 }
 
 /// The actions of a sub.
-#[tactic(auto, unfolding(crate::specs::Rules::actions, crate::specs::Rules::actions_from))]
+#[tactic(auto, unfolding(crate::specs::Rules::actions, crate::specs::Rules::listed))]
 fn actions(alloc: Global, cursor: &mut Cursor<'_>) -> Result<Vec<Action>, Stop>
     ensures { Reads acts_of (spec.actions cursor.old) result cursor.new }
 {

@@ -2,8 +2,7 @@
 ghost use Rattle.std.specs.Prelude.{◌≡◌};
 ghost use Rattle.xs_script.specs.Scope as spec;
 
-use std::alloc::Global;
-use xs_base::{Bytes, Items, Memory};
+use xs_base::{Bytes, Items, is_among_names};
 
 /// The names that the commands so far have declared, and how many commands they are.
 #[derive(Drop)]
@@ -15,14 +14,10 @@ pub struct Scope {
     pub commands: u32,
 }
 
-pub fn holds(names: &Items<Bytes>, name: &[u8]) -> bool
-    ensures { result ≡ spec.holds names.now name.now }
-{
-    names.as_slice().iter().any(|n| n.as_slice() == name)
-}
-
+/// Whether a variable is declared and was not dropped.
 pub fn is_alive(scope: &Scope, name: &[u8]) -> bool
     ensures { result ≡ spec.is_alive scope.now name.now }
 {
-    holds(&scope.variables, name) && !holds(&scope.dropped, name)
+    is_among_names(scope.variables.as_slice(), name)
+        && !is_among_names(scope.dropped.as_slice(), name)
 }

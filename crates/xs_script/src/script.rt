@@ -13,11 +13,14 @@ use crate::command::Command;
 use crate::cursor::{Cursor, Met};
 use crate::lexing::tokens;
 use crate::reading::command;
-use crate::scope::{Scope, holds};
+use crate::scope::Scope;
 use crate::token::Stop;
 use crate::value::MAX_NESTING;
 use std::alloc::Global;
-use xs_base::{Bytes, Fault, FileOf, Items, Line, Memory, Refuse, behind_blanks, lines};
+use xs_base::{
+    Bytes, Fault, FileOf, Items, Line, Memory, Refuse, is_among_names, is_blank_line, is_remark,
+    lines,
+};
 
 /// How many commands a script may have.
 const MAX_COMMANDS: u32 = 10_000;
@@ -41,7 +44,7 @@ fn empty_scope(alloc: Global) -> Scope
 
 // Takes what a command declares into the scope.
 fn enter(alloc: Global, scope: &mut Scope, command: &Command) -> Result<(), Memory>
-    requires { scope.old.commands < 10000 }
+    requires { scope.old.commands < spec.max_commands }
     ensures { OnOk result (scope.new ≡ spec.behind (said command.now) scope.old) }
 {
     match command {
@@ -60,17 +63,21 @@ fn enter(alloc: Global, scope: &mut Scope, command: &Command) -> Result<(), Memo
 fn twice<'a>(scope: &Scope, command: &'a Command) -> Option<&'a Bytes>
     ensures { option_copied result ≡ spec.twice scope.now (said command.now) }
 {
-    match command {
-        Command::My(_, name, _) | Command::MyCall(_, name, _, _)
-            if holds(&scope.variables, name.as_slice()) => { Some(name) }
-        Command::Sub(_, name, _) if holds(&scope.subs, name.as_slice()) => Some(name),
-        _ => None,
+    let (names, name) = match command {
+        Command::My(_, name, _) | Command::MyCall(_, name, _, _) => (&scope.variables, name),
+        Command::Sub(_, name, _) => (&scope.subs, name),
+        _ => return None,
+    };
+    if is_among_names(names.as_slice(), name.as_slice()) {
+        Some(name)
+    } else {
+        None
     }
 }
 
 fn is_full(scope: &Scope, command: &Command) -> bool
     ensures full { result ≡ spec.is_full scope.now (said command.now) }
-    ensures room { result ≡ false → scope.now.commands < 10000 }
+    ensures room { result ≡ false → scope.now.commands < spec.max_commands }
 {
     let is_over = match command {
         Command::My(_, _, _) | Command::MyCall(_, _, _, _) => {
@@ -80,17 +87,6 @@ fn is_full(scope: &Scope, command: &Command) -> bool
         _ => false,
     };
     is_over || scope.commands >= MAX_COMMANDS
-}
-
-fn fault(line: u32, code: u16, word: Bytes) -> Fault
-    ensures { result ≡ spec.fault line code word }
-{
-    Fault {
-        file: FileOf::Script,
-        line,
-        code,
-        word,
-    }
 }
 
 /// The fault of a line that has a reading: the one of the least code, and of these the leftmost.
@@ -103,7 +99,7 @@ fn first_fault(
     met: Met,
 ) -> Result<Option<Fault>, Memory>
     ensures exact { IfOk result (λ found. found ≡ spec.first_fault scope.now line (said command.now) met) }
-    ensures room { IfOk result (λ found. IfNone found (scope.now.commands < 10000)) }
+    ensures room { IfOk result (λ found. IfNone found (scope.now.commands < spec.max_commands)) }
 {
     let Met {
         unknown,
@@ -111,19 +107,19 @@ fn first_fault(
         deepest,
     } = met;
     if let Some(name) = unknown {
-        return Ok(Some(fault(line, 952, name)));
+        return Ok(Some(Fault::new(FileOf::Script, line, 952, name)));
     }
     if let Some(name) = twice(scope, command) {
-        return Ok(Some(fault(line, 953, name.copy(alloc)?)));
+        return Ok(Some(Fault::new(FileOf::Script, line, 953, name.copy(alloc)?)));
     }
     if let Some(number) = beyond {
-        return Ok(Some(fault(line, 954, number)));
+        return Ok(Some(Fault::new(FileOf::Script, line, 954, number)));
     }
     if deepest > MAX_NESTING {
-        return Ok(Some(fault(line, 955, Bytes::new(alloc))));
+        return Ok(Some(Fault::bare(alloc, FileOf::Script, line, 955)));
     }
     if is_full(scope, command) {
-        return Ok(Some(fault(line, 956, Bytes::new(alloc))));
+        return Ok(Some(Fault::bare(alloc, FileOf::Script, line, 956)));
     }
     Ok(None)
 }
@@ -132,17 +128,14 @@ fn first_fault(
 fn is_skipped(text: &[u8]) -> bool
     ensures { result ≡ spec.is_skipped text.now }
 {
-    match behind_blanks(text) {
-        [] => true,
-        [b, ..] => *b == b'#',
-    }
+    is_blank_line(text) || is_remark(text)
 }
 
 /// The command of a line, if it has one, or its first fault.
 #[tactic(auto, unfolding(crate::specs::Script::line_of, crate::specs::Script::reading_of))]
 fn read_line(alloc: Global, scope: &Scope, line: &Line) -> Result<Option<Command>, Refuse>
     ensures exact { GivesBy (option_map said) result (spec.line_of scope.now line.now) }
-    ensures room { IfOk result (λ found. IfSome found (λ _. scope.now.commands < 10000)) }
+    ensures room { IfOk result (λ found. IfSome found (λ _. scope.now.commands < spec.max_commands)) }
 {
     if is_skipped(line.text.as_slice()) {
         return Ok(None);
@@ -150,7 +143,7 @@ fn read_line(alloc: Global, scope: &Scope, line: &Line) -> Result<Option<Command
     let (found, met) = match reading(alloc, scope, line) {
         Ok(read) => read,
         Err(Stop::Unread) => {
-            return Err(Refuse::Fault(fault(line.number, 951, Bytes::new(alloc))));
+            return Err(Refuse::Fault(Fault::bare(alloc, FileOf::Script, line.number, 951)));
         }
         Err(Stop::Memory) => return Err(Refuse::Memory),
     };

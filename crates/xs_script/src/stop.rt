@@ -1,5 +1,5 @@
 //! Want of memory in the readers of a line.
-ghost use Rattle.std.specs.Prelude.{◌≡◌, [], ◌∷◌, ◌++◌, OnOk};
+ghost use Rattle.std.specs.Prelude.{◌≡◌};
 ghost use Rattle.xs_script.specs.declared.token.Stop.TheVariants as stop;
 
 use crate::token::Stop;
@@ -11,12 +11,4 @@ impl From<Memory> for Stop {
     fn from(_: Memory) -> Stop {
         Stop::Memory
     }
-}
-
-/// Adds an element at the end.
-pub fn add<T: Drop>(list: &mut Vec<T>, item: T) -> Result<(), Memory>
-    ensures { OnOk result (list.new.items ≡ list.old.items ++ item ∷ []) }
-{
-    list.push(item)?;
-    Ok(())
 }

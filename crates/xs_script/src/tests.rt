@@ -7,10 +7,6 @@ use std::test::Fail;
 use xs_base::{Bytes, Memory, Refuse};
 use xs_values::Plain;
 
-fn append_number(alloc: Global, out: &mut Bytes, n: u64) -> Result<(), Memory> {
-    out.append(n.to_string(alloc)?.as_bytes())
-}
-
 fn append_expr(alloc: Global, out: &mut Bytes, e: &E) -> Result<(), Memory> {
     match e {
         E::Undef => out.append(b"undef"),
@@ -42,7 +38,7 @@ fn append_expr(alloc: Global, out: &mut Bytes, e: &E) -> Result<(), Memory> {
         }
         E::Argument(k) => {
             out.append(b"arg ")?;
-            append_number(alloc, out, u64::from(*k))
+            out.append_number(alloc, u64::from(*k))
         }
     }
 }
@@ -65,7 +61,7 @@ fn append_action(alloc: Global, out: &mut Bytes, action: &Action) -> Result<(), 
         }
         Action::Set(k, e) => {
             out.append(b"set ")?;
-            append_number(alloc, out, u64::from(*k))?;
+            out.append_number(alloc, u64::from(*k))?;
             out.append(b" ")?;
             append_expr(alloc, out, e)
         }
@@ -88,7 +84,7 @@ fn append_head(
     word: &[u8],
     name: &Bytes,
 ) -> Result<(), Memory> {
-    append_number(alloc, out, u64::from(line))?;
+    out.append_number(alloc, u64::from(line))?;
     out.append(word)?;
     out.append(name.as_slice())
 }
@@ -114,7 +110,7 @@ fn append_command(alloc: Global, out: &mut Bytes, command: &Command) -> Result<(
             out.append(parent.as_slice())
         }
         Command::Call(line, sub, args) => {
-            append_number(alloc, out, u64::from(*line))?;
+            out.append_number(alloc, u64::from(*line))?;
             out.append(b" call ")?;
             append_call(alloc, out, sub, args)
         }
@@ -148,9 +144,9 @@ fn told(alloc: Global, src: &Bytes) -> Result<Bytes, Memory>
         }
         Err(Refuse::Fault(fault)) => {
             out.append(b"line ")?;
-            append_number(alloc, &mut out, u64::from(fault.line))?;
+            out.append_number(alloc, u64::from(fault.line))?;
             out.append(b": ")?;
-            append_number(alloc, &mut out, u64::from(fault.code))?;
+            out.append_number(alloc, u64::from(fault.code))?;
             out.append(b" ")?;
             out.append(fault.word.as_slice())?;
         }
@@ -339,7 +335,7 @@ fn declared(alloc: Global, head: &[u8], tail: &[u8], count: u32) -> Result<(usiz
     let mut out = Bytes::new(alloc);
     for i in 0..count {
         out.append(head)?;
-        append_number(alloc, &mut out, u64::from(i))?;
+        out.append_number(alloc, u64::from(i))?;
         out.append(tail)?;
     }
     counted(alloc, &out)

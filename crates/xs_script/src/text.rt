@@ -1,10 +1,11 @@
 //! The text that shows a plain value.
+ghost use Rattle.std.specs.Char.{digit_char};
 ghost use Rattle.std.specs.Prelude.{◌≡◌, ◌++◌, ◌<◌, IfOk, OnOk, take};
-ghost use Rattle.xs_script.specs.ValueText.{hex_digit, quoted_text, shown_byte, value_text_of};
+ghost use Rattle.xs_script.specs.ValueText.{quoted_text, shown_byte, value_text_of};
 
 use std::alloc::Global;
 use xs_base::{Bytes, Memory};
-use xs_values::Plain;
+use xs_values::{Plain, to_text};
 
 /// The text of a plain value: `undef`, a decimal number with a leading `-` where it is negative, or a text in quotes as
 /// `quoted` gives it.
@@ -13,8 +14,7 @@ pub fn value_text(alloc: Global, p: &Plain) -> Result<Bytes, Memory>
 {
     match p {
         Plain::Undef => Bytes::from_slice(alloc, b"undef"),
-        Plain::Int(n) => Bytes::from_slice(alloc, n.to_string(alloc)?.as_bytes()),
-        Plain::Uns(n) => Bytes::from_slice(alloc, n.to_string(alloc)?.as_bytes()),
+        Plain::Int(_) | Plain::Uns(_) => to_text(alloc, p),
         Plain::Text(text) => quoted(alloc, text.as_slice()),
     }
 }
@@ -58,9 +58,10 @@ fn append_shown(out: &mut Bytes, b: u8) -> Result<(), Memory>
     }
 }
 
+// A hexadecimal digit in lower case.
 fn hex(digit: u8) -> u8
     requires { digit < 16 }
-    ensures { result ≡ hex_digit digit }
+    ensures { result ≡ digit_char digit }
 {
     if digit < 10 {
         b'0' + digit

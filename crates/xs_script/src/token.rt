@@ -56,6 +56,7 @@ pub enum Front {
 pub enum Stop {
     /// The line has no reading.
     Unread,
+    /// Memory is wanting.
     Memory,
 }
 

@@ -1,19 +1,18 @@
 //! Expressions. Brackets are kept in a list, so that no line is too deep to read.
 ghost use Rattle.std.specs.Prelude.{◌≡◌, IfOk, map};
-ghost use Rattle.xs_script.specs.Brackets.{around_of, bracket, entry};
+ghost use Rattle.xs_script.specs.Brackets.{around_of, bracket};
 ghost use Rattle.xs_script.specs.Input.{Reads};
 ghost use Rattle.xs_script.specs.Partial.{partial_of};
 ghost use Rattle.xs_script.specs.Value as spec;
-ghost use Rattle.xs_script.specs.View.{plain};
+ghost use Rattle.xs_script.specs.View.{entry, plain};
 
 use crate::around::{Open, depth, pop_open};
 use crate::command::{E, Number};
 use crate::cursor::Cursor;
 use crate::number::{argument_of, number_of};
-use crate::stop::add;
 use crate::token::{Kind, Mark, Stop};
 use std::alloc::Global;
-use xs_base::{Bytes, Memory};
+use xs_base::{Bytes, Memory, add};
 
 /// How many brackets may be open in an expression.
 pub const MAX_NESTING: usize = 16;
@@ -25,6 +24,7 @@ pub struct Partial {
     pub ended: Option<E>,
 }
 
+/// A variable, known or not.
 #[tactic(auto, unfolding(crate::specs::Value::variable))]
 pub fn variable(alloc: Global, cursor: &mut Cursor<'_>) -> Result<Bytes, Stop>
     ensures { Reads (λ b. b) (spec.variable cursor.old) result cursor.new }
@@ -48,6 +48,7 @@ fn whole_number(alloc: Global, cursor: &mut Cursor<'_>) -> Result<Number, Stop>
     }
 }
 
+/// The number of an argument, behind the word `arg`.
 #[tactic(auto, unfolding(crate::specs::Value::argument))]
 pub fn argument(alloc: Global, cursor: &mut Cursor<'_>) -> Result<u32, Stop>
     ensures { Reads (λ n. n) (spec.argument cursor.old) result cursor.new }
@@ -140,6 +141,19 @@ fn key(alloc: Global, cursor: &mut Cursor<'_>) -> Result<Bytes, Stop>
     Ok(name)
 }
 
+// A key, whose value begins behind the arrow.
+fn keyed(
+    alloc: Global,
+    cursor: &mut Cursor<'_>,
+    entries: Vec<(Bytes, E)>,
+    around: Vec<Open>,
+) -> Result<Partial, Stop>
+    ensures { Reads partial_of (spec.keyed (map entry entries.items) (around_of around.items) cursor.old) result cursor.new }
+{
+    let name = key(alloc, cursor)?;
+    Ok(inside(around, Open::Hash(entries, name))?)
+}
+
 #[tactic(auto, using(crate::proofs::Views::views), unfolding(crate::specs::Value::in_square))]
 fn in_square(alloc: Global, cursor: &mut Cursor<'_>, around: Vec<Open>) -> Result<Partial, Stop>
     ensures { Reads partial_of (spec.in_square (around_of around.items) cursor.old) result cursor.new }
@@ -160,8 +174,7 @@ fn in_curly(alloc: Global, cursor: &mut Cursor<'_>, around: Vec<Open>) -> Result
     if cursor.eat(Mark::CloseCurly) {
         Ok(finished(around, E::Hash(Vec::new(alloc))))
     } else {
-        let name = key(alloc, cursor)?;
-        Ok(inside(around, Open::Hash(Vec::new(alloc), name))?)
+        keyed(alloc, cursor, Vec::new(alloc), around)
     }
 }
 
@@ -209,8 +222,7 @@ fn follow_hash(
     ensures { Reads partial_of (spec.follow_hash (map entry entries.items) (around_of around.items) cursor.old) result cursor.new }
 {
     if cursor.eat(Mark::Comma) {
-        let name = key(alloc, cursor)?;
-        return Ok(inside(around, Open::Hash(entries, name))?);
+        return keyed(alloc, cursor, entries, around);
     }
     cursor.expect(Mark::CloseCurly)?;
     Ok(finished(around, E::Hash(entries)))

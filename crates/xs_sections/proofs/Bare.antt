@@ -3,14 +3,15 @@ use Rattle.std.proofs.Common.{◌≡◌, ℕ, Bool, true, false, ◌==◌, List,
 use Rattle.std.specs.List.{list_all}
 use Rattle.std.specs.Prelude.{codes, if◌then◌else◌, is_some, None, option_and_then, Some}
 use Rattle.std.specs.Str.{bytes_eq}
-use Rattle.std.proofs.lemmas.Bool.{and_parts, false≢true}
+use Rattle.std.proofs.lemmas.Bool.{and_parts, false≢true, or_left}
 use Rattle.std.proofs.lemmas.Bool.Decides.{nat_tests}
 use Rattle.std.proofs.lemmas.Slice.Eq.{bytes_eq-Decides}
+use Rattle.xs_base.proofs.WordBytes.{not_this, word_not_blank}
 use Rattle.xs_base.specs.declared.place.Line.{Line}
-use Rattle.xs_base.specs.Scanning.{after_word, begins_word, is_blank, is_identifier, is_word_byte}
-use Rattle.xs_base.specs.Runs.{behind_blanks, front_of}
+use Rattle.xs_base.specs.Scanning.{after_word, begins_with, begins_word, is_digit, is_identifier, is_word_byte}
+use Rattle.xs_base.specs.Runs.{behind_blanks, front_of, is_remark}
 use Rattle.xs_base.specs.declared.runs.ByteClass.TheVariants.{Word}
-use Rattle.xs_sections.specs.Marks.{begins_with, is_comment, is_module_line}
+use Rattle.xs_sections.specs.Marks.{is_module_line}
 use Rattle.xs_sections.specs.Classes.{Tag, class_of, place_behind, pod_behind, gap_behind, further_behind, blank_behind, tag_of, tags_from, tags_of}
 use Rattle.xs_sections.specs.Laws.{IsOf, from_module, without_comments}
 use Rattle.xs_sections.specs.Steps.{is_c_part}
@@ -27,7 +28,7 @@ use Rattle.xs_sections.proofs.XsParts.{bare}
 -- ---- what is no comment
 
 -- a line whose first word is MODULE
-module_no_comment : (text : List ℕ) → is_module_line text ≡ true → is_comment text ≡ false
+module_no_comment : (text : List ℕ) → is_module_line text ≡ true → is_remark text ≡ false
 module_no_comment text h = by_text (behind_blanks text) h
   where
     by_byte : (c : Bool) (b : ℕ) (bs : List ℕ) → (b == 35) ≡ c → bytes_eq (front_of Word (b ∷ bs)) (codes "MODULE") ≡ true → is_some (option_and_then (after_word []) (if c then Some bs else None)) ≡ false
@@ -41,13 +42,11 @@ module_no_comment text h = by_text (behind_blanks text) h
     by_text (b ∷ bs) m = by_byte (b == 35) b bs refl m
 
 -- an identifier
-word_no_comment : (b : ℕ) (bs : List ℕ) → begins_word b ≡ true → is_comment (b ∷ bs) ≡ false
+word_no_comment : (b : ℕ) (bs : List ℕ) → begins_word b ≡ true → is_remark (b ∷ bs) ≡ false
 word_no_comment b bs h =
-    let a : is_blank b ≡ false = grind (arith, nat_tests) in
-    let c : (b == 35) ≡ false = grind (arith, nat_tests) in
-    rw (a, c) refl
+    rw (word_not_blank b (or_left (begins_word b) (is_digit b) h), not_this begins_word 35 refl b h) refl
 
-identifier_no_comment : (text : List ℕ) → is_identifier text ≡ true → is_comment text ≡ false
+identifier_no_comment : (text : List ℕ) → is_identifier text ≡ true → is_remark text ≡ false
 identifier_no_comment [] h = refl
 identifier_no_comment (b ∷ bs) h = word_no_comment b bs (and_parts (begins_word b) (list_all is_word_byte bs) h).0
 
@@ -56,7 +55,7 @@ abbrev HasWord : Place → Type 0
 HasWord (place.Map end) = is_identifier end ≡ true
 HasWord _ = Unit {0}
 
-end_no_comment : (at : Place) (text : List ℕ) → HasWord at → IsEnd at text true → is_comment text ≡ false
+end_no_comment : (at : Place) (text : List ℕ) → HasWord at → IsEnd at text true → is_remark text ≡ false
 end_no_comment (place.Map end) text w e =
     let same : text ≡ end = (bytes_eq-Decides text end).0 e in rw same (identifier_no_comment end w)
 end_no_comment _ text w e = absurd e
@@ -86,7 +85,7 @@ blank_xs _ = record { no_c = refl; word = tt }
 abbrev Same : List Tag → Type 0
 Same ts = bare ts ≡ without_comments (kept ts)
 
-takes : (l : Line) (ts : List Tag) → is_comment l.text ≡ false → Same ts → l ∷ bare ts ≡ without_comments (l ∷ kept ts)
+takes : (l : Line) (ts : List Tag) → is_remark l.text ≡ false → Same ts → l ∷ bare ts ≡ without_comments (l ∷ kept ts)
 takes l ts e ih = rw e (ap (λ (ls : List Line). l ∷ ls) ih)
 
 bare_step : (c : Class) (l : Line) (starts : Bool) (at : Place) (ts : List Tag) → IsOf l.text c → StandsAt at l.text c → InXs at
@@ -105,7 +104,7 @@ bare_step class.BadValue l starts at ts is s x ih = takes l ts is.line.plain.no_
 bare_step (class.LeftOut word) l starts at ts is s x ih = takes l ts is.line.plain.no_comment (ih (record { no_c = refl; word = tt }))
 bare_step (class.MapBegin end) l starts at ts is s x ih =
     takes l ts is.line.plain.no_comment (ih (record { no_c = refl; word = end_identifier l.text end is.reads }))
-bare_step class.MapLine l starts at ts is s x ih = takes l ts is.1 (ih x)
+bare_step class.MapLine l starts at ts is s x ih = takes l ts is.no_comment (ih x)
 bare_step class.MapEnd l starts at ts is s x ih = takes l ts (end_no_comment at l.text x.word s) (ih (record { no_c = refl; word = tt }))
 bare_step class.First l starts at ts is s x ih = takes l ts is.line.plain.no_comment (ih (record { no_c = refl; word = tt }))
 bare_step class.FirstOfBoot l starts at ts is s x ih = takes l ts is.line.plain.no_comment (ih (record { no_c = refl; word = tt }))

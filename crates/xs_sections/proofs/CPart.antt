@@ -1,13 +1,13 @@
 -- The C part is what stands before the first MODULE line, POD aside.
-use Rattle.std.proofs.Common.{◌≡◌, Bool, true, false, ◌&&◌, if◌then◌else◌, List, [], ◌∷◌, ◌++◌, All, refl, ap, sym, subst, ◌∙◌, append_assoc}
+use Rattle.std.proofs.Common.{◌≡◌, ℕ, Bool, true, false, if◌then◌else◌, List, [], ◌∷◌, ◌++◌, All, refl, ap, sym, subst, ◌∙◌, append_assoc}
 use Rattle.std.proofs.lemmas.Bool.{false≢true}
 use Rattle.std.proofs.lemmas.List.Elements.{All-nil, All-cons, All-append}
 use Rattle.xs_base.specs.declared.fault.Fault.{Fault}
 use Rattle.xs_base.specs.declared.place.Line.{Line}
 use Rattle.xs_sections.specs.Marks.{begins_pod, ends_pod}
-use Rattle.xs_sections.specs.Classes.{Tag, class_of, class_at, is_head, opens_paragraph, place_behind, pod_behind, tag_of, tags_from, tags_of}
+use Rattle.xs_sections.specs.Classes.{Tag, class_of, class_at, starts_paragraph, place_behind, pod_behind, tag_of, tags_from, tags_of}
 use Rattle.xs_sections.specs.Cut.{lines_in, c_lines}
-use Rattle.xs_sections.specs.Faults.{is_pod_begin, is_pod_end, some_line, unless_behind, pod_fault}
+use Rattle.xs_sections.specs.Faults.{is_pod_begin, is_pod_end, line_fault, line_faults, pod_fault, room_behind, room_fault, some_line, unless_behind}
 use Rattle.xs_sections.specs.Laws.{IsOf, WithoutPod, is_no_pod, before_module}
 use Rattle.xs_sections.specs.Laws as law
 use Rattle.xs_sections.specs.Steps.{is_c_part}
@@ -86,6 +86,13 @@ pub no_faults : (xs ys : List Fault) → xs ++ ys ≡ [] → (xs ≡ []) × (ys 
 no_faults [] ys e = (refl, e)
 no_faults (x ∷ xs) ys e = absurd cc
 
+-- a line by itself has no fault, and neither have those behind it
+pub own_fault : (room : ℕ) (t : Tag) (ts : List Tag) → line_faults room (t ∷ ts) ≡ [] → (line_fault t.line.number t.class ≡ []) × (line_faults (room_behind t.starts room) ts ≡ [])
+unfolding line_faults
+own_fault room t ts e =
+    let a = no_faults (room_fault t.line.number t.starts room ++ line_fault t.line.number t.class) (line_faults (room_behind t.starts room) ts) e in
+    let b = no_faults (room_fault t.line.number t.starts room) (line_fault t.line.number t.class) a.0 in (b.1, a.1)
+
 pub no_fault_behind : (b : Bool) (f : Fault) → (if b then [] else f ∷ []) ≡ [] → b ≡ true
 no_fault_behind true f e = refl
 no_fault_behind false f e = absurd cc
@@ -110,9 +117,6 @@ Skipped at ls =
     → some_line is_pod_end (tags_from true at ls) ≡ true → pod_fault (tags_from true at ls) ≡ []
     → WithoutPod (first ∷ inner ++ ls) (kept (tags_from true at ls))
 
-abbrev starts_as : Class → Place → Line → Bool
-starts_as c at l = is_head c && opens_paragraph at l.text
-
 abbrev tags_as : Bool → Place → Class → Bool → Line → List Line → List Tag
 tags_as pod at c starts l ls = tag c l starts ∷ tags_from (pod_behind pod c) (place_behind at c) ls
 
@@ -130,20 +134,20 @@ pods [] at = ((λ e. law.done), λ first inner b i some e. absurd (false≢true 
 pods (l ∷ ls) at = (by_begin (λ to. pods ls to) (begins_pod l.text) refl, by_end (λ to. pods ls to) (ends_pod l.text) refl)
   where
     by_begin : ((to : Place) → Kept to ls × Skipped to ls) → (b : Bool) → begins_pod l.text ≡ b
-        → pod_fault (tags_as false at (if b then class.PodBegin else class_at at l.text) (starts_as (if b then class.PodBegin else class_at at l.text) at l) l ls) ≡ []
-        → WithoutPod (l ∷ ls) (kept (tags_as false at (if b then class.PodBegin else class_at at l.text) (starts_as (if b then class.PodBegin else class_at at l.text) at l) l ls))
+        → pod_fault (tags_as false at (if b then class.PodBegin else class_at at l.text) (starts_paragraph at (if b then class.PodBegin else class_at at l.text) l.text) l ls) ≡ []
+        → WithoutPod (l ∷ ls) (kept (tags_as false at (if b then class.PodBegin else class_at at l.text) (starts_paragraph at (if b then class.PodBegin else class_at at l.text) l.text) l ls))
     by_begin ih true b e =
         let n = no_faults (unless_behind is_pod_end l.number 105 (tags_from true at ls)) (pod_fault (tags_from true at ls)) e in
         let some : some_line is_pod_end (tags_from true at ls) ≡ true = no_fault_behind (some_line is_pod_end (tags_from true at ls)) _ n.0 in
         (ih at).1 l [] b (All-nil IsInner) some n.1
     by_begin ih false b e =
         let m : MeansOutside at l.text (class_at at l.text) = class_at_means at l.text b in
-        keeps_line (class_at at l.text) (starts_as (class_at at l.text) at l) at l ls m.no_pod b (ih (place_behind at (class_at at l.text))).0 e
+        keeps_line (class_at at l.text) (starts_paragraph at (class_at at l.text) l.text) at l ls m.no_pod b (ih (place_behind at (class_at at l.text))).0 e
 
     by_end : ((to : Place) → Kept to ls × Skipped to ls) → (b : Bool) → ends_pod l.text ≡ b → (first : Line) (inner : List Line) → begins_pod first.text ≡ true → All IsInner inner
-        → some_line is_pod_end (tags_as true at (if b then class.PodEnd else class.PodLine) (starts_as (if b then class.PodEnd else class.PodLine) at l) l ls) ≡ true
-        → pod_fault (tags_as true at (if b then class.PodEnd else class.PodLine) (starts_as (if b then class.PodEnd else class.PodLine) at l) l ls) ≡ []
-        → WithoutPod (first ∷ inner ++ l ∷ ls) (kept (tags_as true at (if b then class.PodEnd else class.PodLine) (starts_as (if b then class.PodEnd else class.PodLine) at l) l ls))
+        → some_line is_pod_end (tags_as true at (if b then class.PodEnd else class.PodLine) (starts_paragraph at (if b then class.PodEnd else class.PodLine) l.text) l ls) ≡ true
+        → pod_fault (tags_as true at (if b then class.PodEnd else class.PodLine) (starts_paragraph at (if b then class.PodEnd else class.PodLine) l.text) l ls) ≡ []
+        → WithoutPod (first ∷ inner ++ l ∷ ls) (kept (tags_as true at (if b then class.PodEnd else class.PodLine) (starts_paragraph at (if b then class.PodEnd else class.PodLine) l.text) l ls))
     by_end ih true b first inner begins i some e = law.skips inner l begins i b ((ih at).0 e)
     by_end ih false b first inner begins i some e =
         let more : All IsInner (inner ++ l ∷ []) = All-append IsInner inner (l ∷ []) i (All-cons IsInner l [] b (All-nil IsInner)) in

@@ -1,6 +1,7 @@
 -- The first of faults is one of them, and none is told before it.
 use Rattle.std.proofs.Common.{◌≡◌, ℕ, Bool, true, false, ◌&&◌, ◌||◌, ◌==◌, nat_lt, if◌then◌else◌, List, [], ◌∷◌, ◌⊎◌, inl, inr, All, Contains, Option, None, Some, fold, refl, sym, subst, ◌∙◌, arith}
 use Rattle.std.proofs.lemmas.Bool.Decides.{nat_tests}
+use Rattle.std.proofs.lemmas.Option.{same_Some}
 use Rattle.std.proofs.lemmas.List.Elements.{All-nil, All-cons, Contains-append_left, Contains-append_right, Contains-push}
 use Rattle.xs_base.specs.declared.fault.Fault.{Fault}
 use Rattle.xs_sections.specs.Faults.{is_before, earlier, first_of}
@@ -27,9 +28,6 @@ record IsEarliest (old : Option Fault) (fs : List Fault) (f : Fault) : Type 0 wh
   not_old : (g : Fault) → old ≡ Some g → NotBefore f g
   not_new : All (NotBefore f) fs
 
-same_some : (f g : Fault) → (let o : Option Fault = Some f in o) ≡ Some g → f ≡ g
-same_some f g e = cc
-
 self_not_before : (f : Fault) → NotBefore f f
 self_not_before f = before_self f.line f.code
 
@@ -42,14 +40,14 @@ turned a b h = before_turned a.line a.code b.line b.code h
 in_front : (x f : Fault) (xs : List Fault) → ((let o : Option Fault = Some x in o) ≡ Some f) ⊎ Contains xs f → Contains (x ∷ xs) f
 in_front x f xs (inl e) =
     let P : Fault → Type 0 = λ g. Contains (x ∷ xs) g in
-    subst P (same_some x f e) (Contains-append_left (x ∷ []) xs x (Contains-push [] x))
+    subst P (same_Some x f e) (Contains-append_left (x ∷ []) xs x (Contains-push [] x))
 in_front x f xs (inr h) = Contains-append_right (x ∷ []) xs f h
 
 earliest : (fs : List Fault) (old : Option Fault) (f : Fault) → fold earlier old fs ≡ Some f → IsEarliest old fs f
 earliest [] old f e =
     record {
       among = inl e;
-      not_old = λ g h. subst (λ (k : Fault). NotBefore f k) (same_some f g (sym e ∙ h)) (self_not_before f);
+      not_old = λ g h. subst (λ (k : Fault). NotBefore f k) (same_Some f g (sym e ∙ h)) (self_not_before f);
       not_new = All-nil (NotBefore f);
     }
 earliest (x ∷ xs) None f e =
@@ -67,7 +65,7 @@ earliest (x ∷ xs) (Some g) f e = by_test (λ o h. earliest xs o f h) (is_befor
         let more : IsEarliest (Some x) xs f = ih (Some x) h in
         record {
           among = inr (in_front x f xs more.among);
-          not_old = λ k s. subst (λ (k : Fault). NotBefore f k) (same_some g k s) (joined g x f (turned x g t) (more.not_old x refl));
+          not_old = λ k s. subst (λ (k : Fault). NotBefore f k) (same_Some g k s) (joined g x f (turned x g t) (more.not_old x refl));
           not_new = All-cons (NotBefore f) x xs (more.not_old x refl) more.not_new;
         }
     by_test ih false t h =

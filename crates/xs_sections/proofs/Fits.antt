@@ -2,12 +2,13 @@
 use Rattle.std.proofs.Common.{◌≡◌, ℕ, Bool, true, false, not, ◌&&◌, ◌||◌, ◌==◌, if◌then◌else◌, List, [], ◌∷◌, ◌++◌, Option, None, Some, refl, sym}
 use Rattle.std.specs.Prelude.{codes}
 use Rattle.std.specs.Str.{bytes_eq}
+use Rattle.std.proofs.lemmas.Bool.{cond_both}
 use Rattle.xs_base.specs.declared.place.Line.{Line}
-use Rattle.xs_base.specs.Scanning.{is_blank_line}
-use Rattle.xs_base.specs.Runs.{behind, behind_blanks, front_of}
+use Rattle.xs_base.specs.Scanning.{begins_with, is_blank_line}
+use Rattle.xs_base.specs.Runs.{behind, behind_blanks, front_of, is_remark}
 use Rattle.xs_base.specs.declared.runs.ByteClass.TheVariants.{Capital}
 use Rattle.xs_base.specs.Names.{is_among}
-use Rattle.xs_sections.specs.Marks.{begins_pod, ends_pod, is_comment, is_directive, is_module_line, begins_with}
+use Rattle.xs_sections.specs.Marks.{begins_pod, ends_pod, is_directive, is_module_line}
 use Rattle.xs_sections.specs.ModuleLine.{module_class, class_by_names, module_names}
 use Rattle.xs_sections.specs.Keywords as keyword
 use Rattle.xs_sections.specs.Classes.{is_in_text, opens_paragraph, comment_class, paragraph_class, xs_class, class_at, class_of}
@@ -102,9 +103,9 @@ c_part_fits class.Blank lines fits = sym fits.no_c
 pub record Can (at : Place) (lines : List Line) (class : Class) : Type 0 where
   pub fits : Fits at lines class
 
-by_if : {at : Place} {lines : List Line} (b : Bool) {c d : Class} → Can at lines c → Can at lines d → Can at lines (if b then c else d)
-by_if true p q = p
-by_if false p q = q
+-- what holds of both classes holds of the one that a test chooses
+pub by_if : (P : Class → Type 0) (b : Bool) {c d : Class} → P c → P d → P (if b then c else d)
+by_if P b {c = c} {d = d} p q = cond_both b c d P (λ e. p) (λ e. q)
 
 module _ (at : Place) (lines : List Line) where
   abbrev F : Class → Type 0
@@ -114,7 +115,7 @@ module _ (at : Place) (lines : List Line) where
   can c h = record { fits = h }
 
   comment_fits : is_c_part at ≡ false → (text : List ℕ) → F (comment_class text)
-  comment_fits h text = by_if (is_directive text) (can class.Directive h) (can class.Comment h)
+  comment_fits h text = by_if F (is_directive text) (can class.Directive h) (can class.Comment h)
 
   module_fits : is_map at ≡ false → (text : List ℕ) → F (module_class text)
   module_fits h text = by_names (module_names text)
@@ -125,10 +126,10 @@ module _ (at : Place) (lines : List Line) where
 
   module _ (h : IsHead at) where
     text_fits : (line : List ℕ) → F (keyword.text_class line)
-    text_fits line = by_if (begins_with (codes "BOOT:") line) (can class.FirstOfBoot h) (can class.First h)
+    text_fits line = by_if F (begins_with (codes "BOOT:") line) (can class.FirstOfBoot h) (can class.First h)
 
     value_fits : (b : Bool) → F (keyword.value_class b)
-    value_fits b = by_if b (can class.Keyword h) (can class.BadValue h)
+    value_fits b = by_if F b (can class.Keyword h) (can class.BadValue h)
 
     map_fits : (word : Option (List ℕ)) → F (keyword.map_class word)
     map_fits None = can class.BadValue h
@@ -137,15 +138,15 @@ module _ (at : Place) (lines : List Line) where
     word_fits : (word value line : List ℕ) → F (keyword.word_class word value line)
     unfolding keyword.word_class keyword.left_out_class
     word_fits word value line =
-        by_if (bytes_eq word (codes "PROTOTYPES") || bytes_eq word (codes "VERSIONCHECK")) (value_fits (keyword.is_switch (keyword.only_word value)))
-        (by_if (bytes_eq word (codes "REQUIRE")) (value_fits (keyword.is_some_word (keyword.only_word value)))
-        (by_if (bytes_eq word (codes "FALLBACK")) (value_fits (keyword.is_fallback (keyword.only_word value)))
-        (by_if (bytes_eq word (codes "TYPEMAP")) (map_fits (keyword.block_end (keyword.only_word value)))
-        (by_if (is_among keyword.left_out_words word && not (begins_with (codes ":") value)) (can (class.LeftOut word) h) (text_fits line)))))
+        by_if F (bytes_eq word (codes "PROTOTYPES") || bytes_eq word (codes "VERSIONCHECK")) (value_fits (keyword.is_switch (keyword.only_word value)))
+        (by_if F (bytes_eq word (codes "REQUIRE")) (value_fits (keyword.is_some_word (keyword.only_word value)))
+        (by_if F (bytes_eq word (codes "FALLBACK")) (value_fits (keyword.is_fallback (keyword.only_word value)))
+        (by_if F (bytes_eq word (codes "TYPEMAP")) (map_fits (keyword.block_end (keyword.only_word value)))
+        (by_if F (is_among keyword.left_out_words word && not (begins_with (codes ":") value)) (can (class.LeftOut word) h) (text_fits line)))))
 
     behind_word_fits : (word more line : List ℕ) → F (keyword.class_behind_word word more line)
     behind_word_fits word [] line = text_fits line
-    behind_word_fits word (b ∷ value) line = by_if (b == 58) (word_fits word value line) (text_fits line)
+    behind_word_fits word (b ∷ value) line = by_if F (b == 58) (word_fits word value line) (text_fits line)
 
     head_fits : (line : List ℕ) → F (keyword.head_class line)
     head_fits line = behind_word_fits (front_of Capital line) (behind_blanks (behind Capital line)) line
@@ -157,19 +158,19 @@ module _ (at : Place) (lines : List Line) where
           → F (if is_blank_line text then (if b then class.Blank else class.Outside) else (if b && not (opens_paragraph at text) then class.Further else keyword.head_class text))
       by_text true e =
           let going : IsGoing at lines = record { no_map = h.no_map; no_c = h.no_c; some = good e } in
-          by_if (is_blank_line text) (can class.Blank going) (by_if (not (opens_paragraph at text)) (can class.Further going) (head_fits h text))
+          by_if F (is_blank_line text) (can class.Blank going) (by_if F (not (opens_paragraph at text)) (can class.Further going) (head_fits h text))
       by_text false e =
-          by_if (is_blank_line text) (can class.Outside (record { no_map = h.no_map; no_c = h.no_c; no_text = e })) (head_fits h text)
+          by_if F (is_blank_line text) (can class.Outside (record { no_map = h.no_map; no_c = h.no_c; no_text = e })) (head_fits h text)
 
   xs_fits : IsHead at → Good at lines → (text : List ℕ) → F (xs_class at text)
-  xs_fits h good text = by_if (is_comment text) (comment_fits h.no_c text) (by_if (is_module_line text) (module_fits h.no_map text) (paragraph_fits h good text))
+  xs_fits h good text = by_if F (is_remark text) (comment_fits h.no_c text) (by_if F (is_module_line text) (module_fits h.no_map text) (paragraph_fits h good text))
 
 class_at_fits : (at : Place) (lines : List Line) → Good at lines → (text : List ℕ) → Can at lines (class_at at text)
 unfolding class_at
-class_at_fits place.CPart lines good text = by_if (is_module_line text) (module_fits place.CPart lines refl text) (can place.CPart lines class.C tt)
+class_at_fits place.CPart lines good text = by_if (Can place.CPart lines) (is_module_line text) (module_fits place.CPart lines refl text) (can place.CPart lines class.C tt)
 class_at_fits (place.Map end) lines good text =
-    by_if (bytes_eq text end) (can (place.Map end) lines class.MapEnd refl)
-    (by_if (is_comment text) (comment_fits (place.Map end) lines refl text) (can (place.Map end) lines class.MapLine refl))
+    by_if (Can (place.Map end) lines) (bytes_eq text end) (can (place.Map end) lines class.MapEnd refl)
+    (by_if (Can (place.Map end) lines) (is_remark text) (comment_fits (place.Map end) lines refl text) (can (place.Map end) lines class.MapLine refl))
 class_at_fits place.Between lines good text = xs_fits place.Between lines (record { no_map = refl; no_c = refl }) good text
 class_at_fits place.Head lines good text = xs_fits place.Head lines (record { no_map = refl; no_c = refl }) good text
 class_at_fits place.HeadGap lines good text = xs_fits place.HeadGap lines (record { no_map = refl; no_c = refl }) good text
@@ -178,5 +179,5 @@ class_at_fits place.BodyGap lines good text = xs_fits place.BodyGap lines (recor
 class_at_fits place.Boot lines good text = xs_fits place.Boot lines (record { no_map = refl; no_c = refl }) good text
 
 pub class_of_fits : (pod : Bool) (at : Place) (lines : List Line) → Good at lines → (text : List ℕ) → Can at lines (class_of pod at text)
-class_of_fits true at lines good text = by_if (ends_pod text) (can at lines class.PodEnd tt) (can at lines class.PodLine tt)
-class_of_fits false at lines good text = by_if (begins_pod text) (can at lines class.PodBegin tt) (class_at_fits at lines good text)
+class_of_fits true at lines good text = by_if (Can at lines) (ends_pod text) (can at lines class.PodEnd tt) (can at lines class.PodLine tt)
+class_of_fits false at lines good text = by_if (Can at lines) (begins_pod text) (can at lines class.PodBegin tt) (class_at_fits at lines good text)

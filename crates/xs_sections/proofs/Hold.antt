@@ -7,30 +7,20 @@ use Rattle.xs_base.specs.declared.place.Line.{Line}
 use Rattle.xs_base.specs.Lines.{lines_of}
 use Rattle.xs_base.specs.Reading.{Gives}
 use Rattle.xs_sections.specs.Classes.{Tag, tags_of}
-use Rattle.xs_sections.specs.Cut.{no_names, sections_of, parts_of, unless_fault, split_of, last_names, last_module_line}
+use Rattle.xs_sections.specs.Cut.{no_names, sections_of, parts_of, unless_fault, split_of, last_names}
 use Rattle.xs_sections.specs.Faults.{first_of, faults_of, line_faults, paragraph_limit, module_fault, pod_fault, map_fault, is_module, some_line}
 use Rattle.xs_sections.specs.Laws.{HoldsEachLine, IsLastModule, IsBody, TellsFirst, XsPart, IsSplit, IsOnlySplit}
 use Rattle.xs_sections.specs.declared.class.Place.TheVariants as place
 use Rattle.xs_sections.specs.declared.sections.Part.{Part}
 use Rattle.xs_sections.specs.declared.sections.Sections.{Sections}
 use Rattle.xs_sections.proofs.Parts.{IsPart, each_line, each_read, parts_hold, parts_are}
-use Rattle.xs_sections.proofs.LastModule.{HasLast, last_of}
+use Rattle.xs_sections.proofs.LastModule.{last_of}
 use Rattle.xs_sections.proofs.CPart.{no_fault_behind, kept, c_part_is, without_pod, no_faults}
 use Rattle.xs_sections.proofs.XsParts.{xs_part}
 use Rattle.xs_sections.proofs.Bare.{bare_is}
 use Rattle.xs_sections.proofs.Only.{only_split}
 use Rattle.xs_sections.proofs.Firsts.{first_is, none_first}
-
-record IsAccepted (lines : List Line) (s : Sections) : Type 0 where
-  no_fault : first_of (faults_of (tags_of lines)) ≡ None
-  sections : sections_of (tags_of lines) ≡ s
-
-accepted : (lines : List Line) (s : Sections) → unless_fault (first_of (faults_of (tags_of lines))) (sections_of (tags_of lines)) ≡ Ok s → IsAccepted lines s
-accepted lines s e = by_first (first_of (faults_of (tags_of lines))) refl e
-  where
-    by_first : (first : Option Fault) → first_of (faults_of (tags_of lines)) ≡ first → unless_fault first (sections_of (tags_of lines)) ≡ Ok s → IsAccepted lines s
-    by_first None f h = record { no_fault = f; sections = cc }
-    by_first (Some fault) f h = absurd cc
+use Rattle.xs_sections.proofs.Unless.{faultless}
 
 refused : (first : Option Fault) (sections : Sections) (f : Fault) → unless_fault first sections ≡ Err f → first ≡ Some f
 refused None sections f e = absurd cc
@@ -54,18 +44,7 @@ is_clean ts e =
 last_module : (ts : List Tag) → IsClean ts → IsLastModule ts (sections_of ts)
 last_module ts c =
     let some : some_line is_module ts ≡ true = no_fault_behind (some_line is_module ts) _ c.some_module in
-    let h : HasLast ts (last_names no_names ts) (last_module_line 0 ts) = last_of ts no_names 0 paragraph_limit c.lines some in
-    record {
-      before = h.before;
-      last = h.last;
-      behind = h.behind;
-      names = last_names no_names ts;
-      stands = h.stands;
-      sets = h.sets;
-      module_is = refl;
-      line_is = h.line_is;
-      no_later = h.no_later;
-    }
+    record { names = last_names no_names ts; line = last_of ts no_names 0 paragraph_limit c.lines some; module_is = refl }
 
 each : (lines : List Line) → first_of (faults_of (tags_of lines)) ≡ None → HoldsEachLine lines (sections_of (tags_of lines))
 each lines e =
@@ -91,21 +70,21 @@ split_is lines e =
 
 pub holds_each : (r : Result Sections Refuse) (bytes : List ℕ) → Gives r (split_of bytes) → IfOk r (λ s. HoldsEachLine (lines_of bytes) s)
 holds_each (Ok s) bytes e =
-    let a : IsAccepted (lines_of bytes) s = accepted (lines_of bytes) s e in
-    let P : Sections → Type 0 = λ t. HoldsEachLine (lines_of bytes) t in subst P a.sections (each (lines_of bytes) a.no_fault)
+    let a = faultless (first_of (faults_of (tags_of (lines_of bytes)))) (sections_of (tags_of (lines_of bytes))) s e in
+    let P : Sections → Type 0 = λ t. HoldsEachLine (lines_of bytes) t in subst P a.same (each (lines_of bytes) a.none)
 holds_each (Err f) bytes e = tt
 
 pub is_only_split : (r : Result Sections Refuse) (bytes : List ℕ) → Gives r (split_of bytes) → IfOk r (λ s. IsOnlySplit (lines_of bytes) s)
 is_only_split (Ok s) bytes e =
-    let a : IsAccepted (lines_of bytes) s = accepted (lines_of bytes) s e in
+    let a = faultless (first_of (faults_of (tags_of (lines_of bytes)))) (sections_of (tags_of (lines_of bytes))) s e in
     let P : Sections → Type 0 = λ t. IsOnlySplit (lines_of bytes) t in
-    subst P a.sections (only_split (lines_of bytes) (sections_of (tags_of (lines_of bytes))) (split_is (lines_of bytes) a.no_fault))
+    subst P a.same (only_split (lines_of bytes) (sections_of (tags_of (lines_of bytes))) (split_is (lines_of bytes) a.none))
 is_only_split (Err f) bytes e = tt
 
 pub has_parts : (r : Result Sections Refuse) (bytes : List ℕ) → Gives r (split_of bytes) → IfOk r (λ s. All (λ (p : Part). IsBody p.body) s.parts)
 has_parts (Ok s) bytes e =
-    let a : IsAccepted (lines_of bytes) s = accepted (lines_of bytes) s e in
-    let P : Sections → Type 0 = λ t. All IsPart t.parts in subst P a.sections (parts_are (lines_of bytes) false place.CPart no_names)
+    let a = faultless (first_of (faults_of (tags_of (lines_of bytes)))) (sections_of (tags_of (lines_of bytes))) s e in
+    let P : Sections → Type 0 = λ t. All IsPart t.parts in subst P a.same (parts_are (lines_of bytes) false place.CPart no_names)
 has_parts (Err f) bytes e = tt
 
 pub tells_first : (r : Result Sections Refuse) (bytes : List ℕ) → Gives r (split_of bytes) → TellsFirst (faults_of (tags_of (lines_of bytes))) r

@@ -5,6 +5,7 @@ pub mod Meanings
 pub mod Parts
 pub mod CPart
 pub mod Firsts
+pub mod Unless
 pub mod XsParts
 pub mod Bare
 pub mod Only

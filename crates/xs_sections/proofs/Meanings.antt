@@ -1,18 +1,21 @@
 -- What each line is by its own text, and which classes can stand at a place.
-use Rattle.std.proofs.Common.{◌≡◌, ℕ, Bool, true, false, not, ◌&&◌, ◌||◌, ◌==◌, if◌then◌else◌, List, [], ◌∷◌, Option, None, Some, refl, sym, ◌∙◌}
-use Rattle.std.specs.Prelude.{codes, option_and_then}
+use Rattle.std.proofs.Common.{◌≡◌, ℕ, Bool, true, false, not, ◌&&◌, ◌||◌, ◌==◌, if◌then◌else◌, List, [], ◌∷◌, Option, None, Some, refl, ap, sym, ◌∙◌}
+use Rattle.std.specs.Prelude.{codes}
 use Rattle.std.specs.Str.{bytes_eq}
-use Rattle.std.proofs.lemmas.Bool.{false≢true}
-use Rattle.xs_base.specs.Scanning.{after_word, is_blank_line, is_identifier}
-use Rattle.xs_base.specs.Runs.{behind, behind_blanks, front_of}
+use Rattle.std.proofs.lemmas.Bool.{and_parts, cond_both, false≢true}
+use Rattle.std.proofs.lemmas.Option.{cond_some, option_and_then_some}
+use Rattle.xs_base.proofs.Choices.{some_if}
+use Rattle.xs_base.specs.Scanning.{after_word, begins_with, is_blank_line, is_identifier}
+use Rattle.xs_base.specs.Runs.{behind, behind_blanks, front_of, is_remark}
 use Rattle.xs_base.specs.declared.runs.ByteClass.TheVariants.{Capital, Word}
 use Rattle.xs_base.specs.Names.{is_among}
-use Rattle.xs_sections.specs.Marks.{begins_pod, ends_pod, is_comment, is_directive, is_module_line, begins_with}
+use Rattle.xs_sections.specs.Marks.{begins_pod, ends_pod, is_directive, is_module_line}
 use Rattle.xs_sections.specs.ModuleLine.{module_class, class_by_names, module_names}
 use Rattle.xs_sections.specs.Keywords as keyword
 use Rattle.xs_sections.specs.Classes.{is_in_text, is_head, opens_paragraph, comment_class, paragraph_class, xs_class, class_at, class_of}
 use Rattle.xs_sections.specs.Laws.{IsPlain, IsLine, IsOf, is_no_pod}
 use Rattle.xs_sections.specs.Steps.{is_c_part}
+use Rattle.xs_sections.proofs.Fits.{by_if}
 use Rattle.xs_sections.specs.declared.class.Class.{Class}
 use Rattle.xs_sections.specs.declared.class.Class.TheVariants as class
 use Rattle.xs_sections.specs.declared.class.ModuleNames.{ModuleNames}
@@ -55,13 +58,8 @@ pub record Means (at : Place) (text : List ℕ) (class : Class) : Type 0 where
 
 -- the same of a line that is no POD
 pub record MeansOutside (at : Place) (text : List ℕ) (class : Class) : Type 0 where
-  pub is_of : IsOf text class
-  pub stands : StandsAt at text class
+  pub means : Means at text class
   pub no_pod : is_no_pod class ≡ true
-
-by_test : {at : Place} {text : List ℕ} (b : Bool) {c d : Class} → (b ≡ true → MeansOutside at text c) → (b ≡ false → MeansOutside at text d) → MeansOutside at text (if b then c else d)
-by_test true p q = p refl
-by_test false p q = q refl
 
 -- ---- the head of a paragraph
 
@@ -72,26 +70,15 @@ record Heads (line : List ℕ) (c : Class) : Type 0 where
   boot : c ≡ class.FirstOfBoot → begins_with (codes "BOOT:") line ≡ true
   end : (word : List ℕ) → c ≡ class.MapBegin word → is_identifier word ≡ true
 
-by_if : {line : List ℕ} (b : Bool) {c d : Class} → Heads line c → Heads line d → Heads line (if b then c else d)
-by_if true p q = p
-by_if false p q = q
-
 -- The end word of a typemap block is an identifier.
 end_word_is : (word closing end : List ℕ) → keyword.end_word_of word closing ≡ Some end → is_identifier end ≡ true
-end_word_is word closing end e = by_tests (is_identifier word) (keyword.is_closing closing) refl e
-  where
-    by_tests : (a b : Bool) → is_identifier word ≡ a → (let o : Option (List ℕ) = if a && b then Some word else None in o) ≡ Some end → is_identifier end ≡ true
-    by_tests true true h e = let f : word ≡ end = cc in rw (← f) h
-    by_tests true false h e = absurd cc
-    by_tests false b h e = absurd cc
+end_word_is word closing end e =
+    let p = cond_some (is_identifier word && keyword.is_closing closing) word end e in
+    ap is_identifier (sym p.1) ∙ (and_parts (is_identifier word) (keyword.is_closing closing) p.0).0
 
 quoted_is : (quote : ℕ) (word more end : List ℕ) → keyword.quoted_word quote word more ≡ Some end → is_identifier end ≡ true
 quoted_is quote word [] end e = absurd cc
-quoted_is quote word (b ∷ closing) end e = by_quote (b == quote) e
-  where
-    by_quote : (q : Bool) → (if q then keyword.end_word_of word closing else None) ≡ Some end → is_identifier end ≡ true
-    by_quote true h = end_word_is word closing end h
-    by_quote false h = absurd cc
+quoted_is quote word (b ∷ closing) end e = end_word_is word closing end (some_if (b == quote) (keyword.end_word_of word closing) end e).1
 
 end_is : (text end : List ℕ) → keyword.end_word text ≡ Some end → is_identifier end ≡ true
 end_is [] end e = absurd cc
@@ -104,19 +91,14 @@ end_is (b ∷ bs) end e = by_quotes (b == 34 || b == 39) e
     by_quotes false h = end_word_is (front_of Word (b ∷ bs)) (behind Word (b ∷ bs)) end h
 
 block_end_word : (value end : List ℕ) → keyword.block_end value ≡ Some end → is_identifier end ≡ true
-block_end_word value end e = by_mark (after_word (codes "<<") value) e
-  where
-    by_mark : (o : Option (List ℕ)) → option_and_then keyword.end_word o ≡ Some end → is_identifier end ≡ true
-    by_mark None h = absurd cc
-    by_mark (Some word) h = end_is word end h
+block_end_word value end e = option_and_then_some keyword.end_word (after_word (codes "<<") value) end e (λ word found. end_is word end)
 
 module _ (line : List ℕ) where
   text_heads : Heads line (keyword.text_class line)
-  text_heads = by_boot (begins_with (codes "BOOT:") line) refl
-    where
-      by_boot : (b : Bool) → begins_with (codes "BOOT:") line ≡ b → Heads line (if b then class.FirstOfBoot else class.First)
-      by_boot true e = record { is = refl; no_boot = λ h. absurd cc; boot = λ h. e; end = λ word h. absurd cc }
-      by_boot false e = record { is = refl; no_boot = λ h. e; boot = λ h. absurd cc; end = λ word h. absurd cc }
+  text_heads =
+      cond_both (begins_with (codes "BOOT:") line) _ _ (Heads line)
+      (λ b. record { is = refl; no_boot = λ h. absurd cc; boot = λ h. b; end = λ word h. absurd cc })
+      (λ b. record { is = refl; no_boot = λ h. b; boot = λ h. absurd cc; end = λ word h. absurd cc })
 
   keyword_heads : Heads line class.Keyword
   keyword_heads = record { is = refl; no_boot = λ h. absurd cc; boot = λ h. absurd cc; end = λ word h. absurd cc }
@@ -125,7 +107,7 @@ module _ (line : List ℕ) where
   bad_heads = record { is = refl; no_boot = λ h. absurd cc; boot = λ h. absurd cc; end = λ word h. absurd cc }
 
   value_heads : (b : Bool) → Heads line (keyword.value_class b)
-  value_heads b = by_if b keyword_heads bad_heads
+  value_heads b = by_if (Heads line) b keyword_heads bad_heads
 
   map_heads : (word : Option (List ℕ)) → ((end : List ℕ) → word ≡ Some end → is_identifier end ≡ true) → Heads line (keyword.map_class word)
   map_heads None h = bad_heads
@@ -141,15 +123,15 @@ module _ (line : List ℕ) where
   word_heads : (word value : List ℕ) → Heads line (keyword.word_class word value line)
   unfolding keyword.word_class keyword.left_out_class
   word_heads word value =
-      by_if (bytes_eq word (codes "PROTOTYPES") || bytes_eq word (codes "VERSIONCHECK")) (value_heads (keyword.is_switch (keyword.only_word value)))
-      (by_if (bytes_eq word (codes "REQUIRE")) (value_heads (keyword.is_some_word (keyword.only_word value)))
-      (by_if (bytes_eq word (codes "FALLBACK")) (value_heads (keyword.is_fallback (keyword.only_word value)))
-      (by_if (bytes_eq word (codes "TYPEMAP")) (map_heads (keyword.block_end (keyword.only_word value)) (block_end_word (keyword.only_word value)))
-      (by_if (is_among keyword.left_out_words word && not (begins_with (codes ":") value)) (left_out_heads word) text_heads))))
+      by_if (Heads line) (bytes_eq word (codes "PROTOTYPES") || bytes_eq word (codes "VERSIONCHECK")) (value_heads (keyword.is_switch (keyword.only_word value)))
+      (by_if (Heads line) (bytes_eq word (codes "REQUIRE")) (value_heads (keyword.is_some_word (keyword.only_word value)))
+      (by_if (Heads line) (bytes_eq word (codes "FALLBACK")) (value_heads (keyword.is_fallback (keyword.only_word value)))
+      (by_if (Heads line) (bytes_eq word (codes "TYPEMAP")) (map_heads (keyword.block_end (keyword.only_word value)) (block_end_word (keyword.only_word value)))
+      (by_if (Heads line) (is_among keyword.left_out_words word && not (begins_with (codes ":") value)) (left_out_heads word) text_heads))))
 
   behind_word_heads : (word more : List ℕ) → Heads line (keyword.class_behind_word word more line)
   behind_word_heads word [] = text_heads
-  behind_word_heads word (b ∷ value) = by_if (b == 58) (word_heads word value) text_heads
+  behind_word_heads word (b ∷ value) = by_if (Heads line) (b == 58) (word_heads word value) text_heads
 
   head_heads : Heads line (keyword.head_class line)
   head_heads = behind_word_heads (front_of Capital line) (behind_blanks (behind Capital line))
@@ -171,30 +153,30 @@ module _ (at : Place) (text : List ℕ) where
   M = MeansOutside at text
 
   by_head : (c : Class) → is_head c ≡ true → keyword.head_class text ≡ c → IsLine text false → EndsHere at text → M c
-  by_head class.Keyword h e l s = record { is_of = record { line = l; reads = e }; stands = s; no_pod = refl }
-  by_head class.BadValue h e l s = record { is_of = record { line = l; reads = e }; stands = s; no_pod = refl }
-  by_head (class.LeftOut word) h e l s = record { is_of = record { line = l; reads = e }; stands = s; no_pod = refl }
-  by_head (class.MapBegin end) h e l s = record { is_of = record { line = l; reads = e }; stands = s; no_pod = refl }
-  by_head class.First h e l s = record { is_of = record { line = l; reads = e }; stands = s; no_pod = refl }
-  by_head class.FirstOfBoot h e l s = record { is_of = record { line = l; reads = e }; stands = s; no_pod = refl }
+  by_head class.Keyword h e l s = record { means = record { is_of = record { line = l; reads = e }; stands = s }; no_pod = refl }
+  by_head class.BadValue h e l s = record { means = record { is_of = record { line = l; reads = e }; stands = s }; no_pod = refl }
+  by_head (class.LeftOut word) h e l s = record { means = record { is_of = record { line = l; reads = e }; stands = s }; no_pod = refl }
+  by_head (class.MapBegin end) h e l s = record { means = record { is_of = record { line = l; reads = e }; stands = s }; no_pod = refl }
+  by_head class.First h e l s = record { means = record { is_of = record { line = l; reads = e }; stands = s }; no_pod = refl }
+  by_head class.FirstOfBoot h e l s = record { means = record { is_of = record { line = l; reads = e }; stands = s }; no_pod = refl }
   by_head _ h e l s = absurd (false≢true h)
 
   head_means : IsLine text false → EndsHere at text → M (keyword.head_class text)
   head_means l s = let h : Heads text (keyword.head_class text) = head_heads text in by_head (keyword.head_class text) h.is refl l s
 
   module _ (no_pod : begins_pod text ≡ false) where
-    comment_means : is_comment text ≡ true → M (comment_class text)
+    comment_means : is_remark text ≡ true → M (comment_class text)
     comment_means h =
-        by_test (is_directive text)
-        (λ e. record { is_of = record { no_pod = no_pod; comment = h; directive_is = e }; stands = tt; no_pod = refl })
-        (λ e. record { is_of = record { no_pod = no_pod; comment = h; directive_is = e }; stands = tt; no_pod = refl })
+        cond_both (is_directive text) _ _ M
+        (λ e. record { means = record { is_of = record { no_pod = no_pod; comment = h; directive_is = e }; stands = tt }; no_pod = refl })
+        (λ e. record { means = record { is_of = record { no_pod = no_pod; comment = h; directive_is = e }; stands = tt }; no_pod = refl })
 
     module_means : is_module_line text ≡ true → M (module_class text)
     module_means h = by_names (module_names text) refl
       where
         by_names : (names : Option ModuleNames) → module_names text ≡ names → M (class_by_names names)
-        by_names None e = record { is_of = record { no_pod = no_pod; first_word = h; names_are = e }; stands = tt; no_pod = refl }
-        by_names (Some names) e = record { is_of = record { no_pod = no_pod; first_word = h; names_are = e }; stands = tt; no_pod = refl }
+        by_names None e = record { means = record { is_of = record { no_pod = no_pod; first_word = h; names_are = e }; stands = tt }; no_pod = refl }
+        by_names (Some names) e = record { means = record { is_of = record { no_pod = no_pod; first_word = h; names_are = e }; stands = tt }; no_pod = refl }
 
     paragraph_means : IsPlain text → M (paragraph_class at text)
     paragraph_means plain = by_text (is_in_text at) refl
@@ -204,27 +186,27 @@ module _ (at : Place) (text : List ℕ) where
 
         by_end : (o : Bool) → opens_paragraph at text ≡ o → is_in_text at ≡ true → is_blank_line text ≡ false → M (if not o then class.Further else keyword.head_class text)
         by_end true e t l = head_means (line false l) (λ h. e)
-        by_end false e t l = record { is_of = line false l; stands = record { in_text = t; no_end = e }; no_pod = refl }
+        by_end false e t l = record { means = record { is_of = line false l; stands = record { in_text = t; no_end = e } }; no_pod = refl }
 
         by_text : (b : Bool) → is_in_text at ≡ b
             → M (if is_blank_line text then (if b then class.Blank else class.Outside) else (if b && not (opens_paragraph at text) then class.Further else keyword.head_class text))
         by_text true t =
-            by_test (is_blank_line text) (λ e. record { is_of = line true e; stands = t; no_pod = refl }) (λ e. by_end (opens_paragraph at text) refl t e)
+            cond_both (is_blank_line text) _ _ M (λ e. record { means = record { is_of = line true e; stands = t }; no_pod = refl }) (λ e. by_end (opens_paragraph at text) refl t e)
         by_text false t =
-            by_test (is_blank_line text) (λ e. record { is_of = line true e; stands = t; no_pod = refl }) (λ e. head_means (line false e) (λ h. absurd (false≢true (sym t ∙ h))))
+            cond_both (is_blank_line text) _ _ M (λ e. record { means = record { is_of = line true e; stands = t }; no_pod = refl }) (λ e. head_means (line false e) (λ h. absurd (false≢true (sym t ∙ h))))
 
     xs_means : M (xs_class at text)
     xs_means =
-        by_test (is_comment text) comment_means
-        (λ c. by_test (is_module_line text) module_means (λ m. paragraph_means (record { no_pod = no_pod; no_comment = c; no_module = m })))
+        cond_both (is_remark text) _ _ M comment_means
+        (λ c. cond_both (is_module_line text) _ _ M module_means (λ m. paragraph_means (record { no_pod = no_pod; no_comment = c; no_module = m })))
 
 pub class_at_means : (at : Place) (text : List ℕ) → begins_pod text ≡ false → MeansOutside at text (class_at at text)
 unfolding class_at
 class_at_means place.CPart text p =
-    by_test (is_module_line text) (module_means place.CPart text p) (λ m. record { is_of = (p, m); stands = refl; no_pod = refl })
+    cond_both (is_module_line text) _ _ (MeansOutside place.CPart text) (module_means place.CPart text p) (λ m. record { means = record { is_of = (p, m); stands = refl }; no_pod = refl })
 class_at_means (place.Map end) text p =
-    by_test (bytes_eq text end) (λ e. record { is_of = p; stands = e; no_pod = refl })
-    (λ e. by_test (is_comment text) (comment_means (place.Map end) text p) (λ c. record { is_of = (p, c); stands = e; no_pod = refl }))
+    cond_both (bytes_eq text end) _ _ (MeansOutside (place.Map end) text) (λ e. record { means = record { is_of = p; stands = e }; no_pod = refl })
+    (λ e. cond_both (is_remark text) _ _ (MeansOutside (place.Map end) text) (comment_means (place.Map end) text p) (λ c. record { means = record { is_of = record { no_pod = p; no_comment = c }; stands = e }; no_pod = refl }))
 class_at_means place.Between text p = xs_means place.Between text p
 class_at_means place.Head text p = xs_means place.Head text p
 class_at_means place.HeadGap text p = xs_means place.HeadGap text p
@@ -232,10 +214,6 @@ class_at_means place.Body text p = xs_means place.Body text p
 class_at_means place.BodyGap text p = xs_means place.BodyGap text p
 class_at_means place.Boot text p = xs_means place.Boot text p
 
-by_pod : {at : Place} {text : List ℕ} (b : Bool) {c d : Class} → (b ≡ true → Means at text c) → (b ≡ false → Means at text d) → Means at text (if b then c else d)
-by_pod true p q = p refl
-by_pod false p q = q refl
-
 pub class_of_means : (pod : Bool) (at : Place) (text : List ℕ) → Means at text (class_of pod at text)
-class_of_means true at text = by_pod (ends_pod text) (λ e. record { is_of = e; stands = tt }) (λ e. record { is_of = e; stands = tt })
-class_of_means false at text = by_pod (begins_pod text) (λ e. record { is_of = e; stands = tt }) (λ e. let m : MeansOutside at text (class_at at text) = class_at_means at text e in record { is_of = m.is_of; stands = m.stands })
+class_of_means true at text = cond_both (ends_pod text) _ _ (Means at text) (λ e. record { is_of = e; stands = tt }) (λ e. record { is_of = e; stands = tt })
+class_of_means false at text = cond_both (begins_pod text) _ _ (Means at text) (λ e. record { is_of = e; stands = tt }) (λ e. let m : MeansOutside at text (class_at at text) = class_at_means at text e in m.means)

@@ -1,7 +1,8 @@
 -- The names that MODULE lines set are names.
 use Rattle.std.proofs.Common.{◌≡◌, ℕ, length, Bool, true, List, [], ◌∷◌, ◌++◌, codes, Option, None, Some, Ok, refl, sym, ap, ◌∙◌, subst, arith}
 use Rattle.std.specs.List.{AllByRecursion}
-use Rattle.std.specs.Prelude.{All, ◌<◌, slice_index_or}
+use Rattle.std.specs.Prelude.{All, ◌<◌}
+use Rattle.std.proofs.Math.Seq.{get_or-append_seam}
 use Rattle.std.proofs.lemmas.List.{length-append}
 use Rattle.std.proofs.lemmas.Option.{cond_some, option_and_then_some}
 use Rattle.xs_base.specs.declared.place.Line.{Line}
@@ -77,22 +78,19 @@ parts_named g (law.paragraph further lines h p e r) = (g, parts_named g r)
 
 -- ---- the last MODULE line
 
-stands_there : (before behind : List Tag) (last : Tag) → slice_index_or (before ++ last ∷ behind) (length before) last ≡ last
-stands_there [] behind last = refl
-stands_there (t ∷ before) behind last = stands_there before behind last
-
 within : (before behind : List Tag) (last : Tag) → length before < length (before ++ last ∷ behind)
 within before behind last = let e = length-append before (last ∷ behind) in omega (arith, e)
 
 last_is : (ts : List Tag) (s : Sections) → All (λ (t : Tag). IsOf t.line.text t.class) ts → IsLastModule ts s → is_qualified_name s.module ≡ true
 last_is ts s all l =
     let P : List Tag → Type 0 = λ xs. All (λ (t : Tag). IsOf t.line.text t.class) xs in
-    let each : P (l.before ++ l.last ∷ l.behind) = subst P l.stands all in
+    let each : P (l.line.before ++ l.line.last ∷ l.line.behind) = subst P l.line.stands all in
     let Q : Tag → Type 0 = λ (t : Tag). IsOf t.line.text t.class in
-    let at : Q l.last = subst Q (stands_there l.before l.behind l.last) (each (length l.before) l.last (within l.before l.behind l.last)) in
-    let R : Class → Type 0 = λ c. IsOf l.last.line.text c in
-    let line : IsModule l.last.line.text (Some l.names) = subst R l.sets at in
-    ap is_qualified_name (sym l.module_is) ∙ (are_names l.last.line.text l.names line.names_are).module_name
+    let there = get_or-append_seam l.line.before l.line.last l.line.behind l.line.last in
+    let at : Q l.line.last = subst Q there (each (length l.line.before) l.line.last (within l.line.before l.line.behind l.line.last)) in
+    let R : Class → Type 0 = λ c. IsOf l.line.last.line.text c in
+    let line : IsModule l.line.last.line.text (Some l.names) = subst R l.line.sets at in
+    ap is_qualified_name (sym l.module_is) ∙ (are_names l.line.last.line.text l.names line.names_are).module_name
 
 -- The module of a file has a name, and each package is a name or nothing.
 pub record AreNamed (s : Sections) : Type 0 where

@@ -1,18 +1,20 @@
 -- A file can be split in one way only.
-use Rattle.std.proofs.Common.{◌&&◌, ◌≡◌, ℕ, Bool, true, false, if◌then◌else◌, List, [], ◌∷◌, ◌++◌, ◌⊎◌, inl, inr, All, Option, None, Some, refl, ap, sym, subst, ◌∙◌}
+use Rattle.std.proofs.Common.{◌≡◌, ℕ, Bool, true, false, List, [], ◌∷◌, ◌++◌, ◌⊎◌, inl, inr, All, Option, None, Some, refl, ap, sym, subst, ◌∙◌, append-nil}
 use Rattle.std.specs.Prelude.{codes}
 use Rattle.std.specs.Str.{bytes_eq}
 use Rattle.std.proofs.lemmas.Bool.{false≢true}
+use Rattle.std.proofs.lemmas.Option.{same_Some}
 use Rattle.std.proofs.lemmas.List.Elements.{All-head, All-tail}
 use Rattle.xs_base.specs.declared.place.Line.{Line}
-use Rattle.xs_base.specs.Scanning.{is_blank, is_blank_line}
+use Rattle.xs_base.specs.Scanning.{begins_with, is_blank_line}
+use Rattle.xs_base.proofs.FrontRuns.{behind_seam}
 use Rattle.xs_base.specs.Runs.{behind_blanks, front_of}
 use Rattle.xs_base.specs.declared.runs.ByteClass.TheVariants as byte_class
-use Rattle.xs_sections.specs.Marks.{begins_with, begins_pod, ends_pod, is_module_line}
+use Rattle.xs_sections.specs.Marks.{begins_pod, ends_pod, is_module_line}
 use Rattle.xs_sections.specs.ModuleLine.{module_names}
 use Rattle.xs_sections.specs.Keywords.{head_class}
 use Rattle.xs_sections.specs.Cut.{map_of, paragraph_of}
-use Rattle.xs_sections.specs.Laws.{IsPlain, IsHeadLine, IsParagraphHead, IsParagraph, HoldsTogether, EndsAtGap, EndsBefore, last_line, WithoutPod, XsPart, before_module, from_module, without_comments, IsSplit, IsOnlySplit}
+use Rattle.xs_sections.specs.Laws.{IsPlain, IsPlainLine, IsHeadLine, IsParagraphHead, IsParagraph, HoldsTogether, EndsAtGap, EndsBefore, last_line, WithoutPod, XsPart, before_module, from_module, without_comments, IsSplit, IsOnlySplit}
 use Rattle.xs_sections.specs.Laws as law
 use Rattle.xs_sections.specs.declared.class.Class.{Class}
 use Rattle.xs_sections.specs.declared.class.Class.TheVariants as class
@@ -67,9 +69,6 @@ same_pod (law.skips {first = x} inner last {lines = xs} {rest = r} b i p v) ms m
     same_pod v ys s h.behind w
 
 -- ---- paragraphs
-
-abbrev IsPlainLine : Line → Type 0
-IsPlainLine l = IsPlain l.text
 
 -- what goes on behind a line of a paragraph, up to its end
 record Goes (first last : Line) (ls rest : List Line) : Type 0 where
@@ -148,12 +147,7 @@ abbrev kind : List ℕ → Kind
 kind text = kind_by (is_blank_line text) (is_module_line text) (head_class text)
 
 empty_trimmed : (text : List ℕ) → is_blank_line text ≡ true → behind_blanks text ≡ []
-empty_trimmed [] e = refl
-empty_trimmed (b ∷ bs) e = by_blank (is_blank b) (λ h. empty_trimmed bs h) e
-  where
-    by_blank : (c : Bool) → (is_blank_line bs ≡ true → behind_blanks bs ≡ []) → (c && is_blank_line bs) ≡ true → (if c then behind_blanks bs else b ∷ bs) ≡ []
-    by_blank true ih h = ih h
-    by_blank false ih h = absurd (false≢true h)
+empty_trimmed text e = ap behind_blanks (sym (append-nil text)) ∙ behind_seam byte_class.Blank text [] e refl
 
 module_not_empty : (text : List ℕ) → is_module_line text ≡ true → is_blank_line text ≡ false
 module_not_empty text m = by_empty (is_blank_line text) refl
@@ -199,7 +193,7 @@ same_kind : {names : ModuleNames} {ls ms : List Line} {ps qs : List Part} → ls
 same_kind e d f = piece_is d ∙ ap first_kind e ∙ sym (piece_is f)
 
 same_names : (a b : ModuleNames) (x y : Line) → x ≡ y → module_names x.text ≡ Some a → module_names y.text ≡ Some b → a ≡ b
-same_names a b x y e m n = let h : (let o : Option ModuleNames = Some a in o) ≡ Some b = sym m ∙ ap (λ (l : Line). module_names l.text) e ∙ n in cc
+same_names a b x y e m n = same_Some a b (sym m ∙ ap (λ (l : Line). module_names l.text) e ∙ n)
 
 same_end : (a b : List ℕ) → (let k : Option Kind = Some (Block a) in k) ≡ Some (Block b) → a ≡ b
 same_end a b e = cc

@@ -1,15 +1,15 @@
 -- The sections hold each line of the file once.
 use Rattle.std.proofs.Common.{◌&&◌, ◌≡◌, ℕ, Bool, true, false, not, cond, if◌then◌else◌, List, [], ◌∷◌, ◌++◌, map, All, refl, ap, sym, subst, ◌∙◌}
 use Rattle.std.specs.List.{flat_map}
-use Rattle.std.proofs.lemmas.Bool.{false≢true}
+use Rattle.std.proofs.lemmas.Bool.{cond_both, false≢true}
 use Rattle.std.proofs.lemmas.List.Elements.{All-nil, All-cons, All-append}
 use Rattle.std.specs.Prelude.{codes}
 use Rattle.xs_base.specs.declared.place.Line.{Line}
-use Rattle.xs_base.specs.Scanning.{is_blank, is_blank_line}
-use Rattle.xs_sections.specs.Marks.{begins_with, is_flush_left}
+use Rattle.xs_base.specs.Scanning.{begins_with, is_blank, is_blank_line}
+use Rattle.xs_sections.specs.Marks.{is_flush_left}
 use Rattle.xs_sections.specs.Classes.{Tag, class_of, is_in_text, opens_paragraph, place_behind, pod_behind, gap_behind, further_behind, blank_behind, tag_of, tags_from, tags_of}
 use Rattle.xs_sections.specs.Cut.{paragraph_lines, map_lines, lines_in, names_behind, paragraph_of, map_of, part_at, parts_of}
-use Rattle.xs_sections.specs.Laws.{IsOf, IsPlain, IsHeadLine, body_lines, is_in_part, HoldsTogether, EndsAtGap, IsParagraph, IsMapLine, IsBody}
+use Rattle.xs_sections.specs.Laws.{IsOf, IsPlainLine, IsHeadLine, body_lines, is_in_part, HoldsTogether, EndsAtGap, IsParagraph, IsMapLine, IsBody}
 use Rattle.xs_sections.specs.Steps.{is_map}
 use Rattle.xs_sections.specs.declared.class.Class.{Class}
 use Rattle.xs_sections.specs.declared.class.Class.TheVariants as class
@@ -17,7 +17,7 @@ use Rattle.xs_sections.specs.declared.class.ModuleNames.{ModuleNames}
 use Rattle.xs_sections.specs.declared.class.Place.{Place}
 use Rattle.xs_sections.specs.declared.class.Place.TheVariants as place
 use Rattle.xs_sections.specs.declared.sections.Part.{Part}
-use Rattle.xs_sections.proofs.Places.{tag}
+use Rattle.xs_sections.proofs.Places.{same_cond, tag}
 use Rattle.xs_sections.proofs.Fits.{Fits, Can, class_of_fits}
 use Rattle.xs_sections.proofs.Meanings.{Means, StandsAt, class_of_means, first_no_boot}
 
@@ -69,9 +69,7 @@ abbrev open_lines : Place → List Tag → List Line
 open_lines at ts = if is_map at then map_lines ts else (if is_in_text at then paragraph_lines ts else [])
 
 none_open : (a b : Bool) → cond a [] (cond b [] []) ≡ (let none : List Line = [] in none)
-none_open true b = refl
-none_open false true = refl
-none_open false false = refl
+none_open a b = ap (λ (rest : List Line). cond a [] rest) (same_cond b []) ∙ same_cond a []
 
 gap_open : (at : Place) (ts : List Tag) → is_map at ≡ false → is_in_text at ≡ false → open_lines (gap_behind at) ts ≡ []
 gap_open place.Head ts a b = refl
@@ -141,9 +139,6 @@ parts_hold ls names = sym (parts_from ls false place.CPart names)
 
 -- ---- what parts are
 
-abbrev IsPlainLine : Line → Type 0
-IsPlainLine l = IsPlain l.text
-
 -- what goes on behind a line of a paragraph
 record GoesOnWell (last : Line) (ls : List Line) : Type 0 where
   plain : All IsPlainLine ls
@@ -184,10 +179,6 @@ no_break place.Body last next f o e = absurd (false≢true (sym f ∙ e))
 no_break place.Boot last next f o e = absurd (false≢true (sym f ∙ e))
 no_break (place.Map end) last next f o e = absurd (false≢true (sym f ∙ e))
 
-by_in_text : (b : Bool) {P : Type 0} → (b ≡ true → P) → (b ≡ false → P) → P
-by_in_text true p q = p refl
-by_in_text false p q = q refl
-
 well_step : (c : Class) (l last : Line) (starts : Bool) (at : Place) (ts : List Tag)
     → IsOf l.text c → StandsAt at l.text c → is_in_text at ≡ true → Follows at last
     → ((next : Line) → is_in_text (place_behind at c) ≡ true → Follows (place_behind at c) next → GoesOnWell next (paragraph_lines ts))
@@ -200,13 +191,13 @@ well_step class.C l last starts at ts is stands inside follows ih none = ih last
 well_step class.Comment l last starts at ts is stands inside follows ih none = ih last inside follows
 well_step class.Directive l last starts at ts is stands inside follows ih none = ih last inside follows
 well_step class.Further l last starts at ts is stands inside follows ih none =
-    let more : GoesOnWell l (paragraph_lines ts) = by_in_text (is_in_text (further_behind at)) (λ e. ih l e (follows_further at l is.empty_is)) (λ e. nothing l _ (none e)) in
+    let more : GoesOnWell l (paragraph_lines ts) = cond_both (is_in_text (further_behind at)) true false (λ u. GoesOnWell l (paragraph_lines ts)) (λ e. ih l e (follows_further at l is.empty_is)) (λ e. nothing l _ (none e)) in
     record {
       plain = All-cons IsPlainLine l _ is.plain more.plain;
       together = (no_break at last l follows stands.no_end, more.together);
     }
 well_step class.Blank l last starts at ts is stands inside follows ih none =
-    let more : GoesOnWell l (paragraph_lines ts) = by_in_text (is_in_text (blank_behind at)) (λ e. ih l e (follows_blank at l e)) (λ e. nothing l _ (none e)) in
+    let more : GoesOnWell l (paragraph_lines ts) = cond_both (is_in_text (blank_behind at)) true false (λ u. GoesOnWell l (paragraph_lines ts)) (λ e. ih l e (follows_blank at l e)) (λ e. nothing l _ (none e)) in
     record {
       plain = All-cons IsPlainLine l _ is.plain more.plain;
       together = ((λ e. empty_not_flush l.text is.empty_is), more.together);
@@ -262,7 +253,7 @@ map_step class.PodEnd l starts ts is ih = ih
 map_step class.C l starts ts is ih = ih
 map_step class.Comment l starts ts is ih = ih
 map_step class.Directive l starts ts is ih = ih
-map_step class.MapLine l starts ts is ih = All-cons IsMapLine l _ (record { no_pod = is.0; no_comment = is.1 }) ih
+map_step class.MapLine l starts ts is ih = All-cons IsMapLine l _ is ih
 map_step _ l starts ts is ih = All-nil IsMapLine
 
 maps : (ls : List Line) (pod : Bool) (at : Place) → All IsMapLine (map_lines (tags_from pod at ls))

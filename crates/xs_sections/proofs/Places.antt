@@ -1,5 +1,5 @@
 -- What a line leaves open, at each place.
-use Rattle.std.proofs.Common.{◌≡◌, Bool, false, refl}
+use Rattle.std.proofs.Common.{◌≡◌, Bool, true, false, cond, refl}
 use Rattle.xs_base.specs.declared.place.Line.{Line}
 use Rattle.xs_sections.specs.Classes.{Tag, is_in_text, gap_behind, further_behind, blank_behind}
 use Rattle.xs_sections.specs.Steps.{is_map, is_c_part}
@@ -9,6 +9,11 @@ use Rattle.xs_sections.specs.declared.class.Place.TheVariants as place
 
 abbrev pub tag : Class → Line → Bool → Tag
 tag class line starts = record { line = line; class = class; starts = starts }
+
+-- both branches of a test are one
+pub same_cond : {A : Type 0} (b : Bool) (x : A) → cond b x x ≡ x
+same_cond true x = refl
+same_cond false x = refl
 
 pub no_map_behind : (at : Place) → is_map at ≡ false → is_map (further_behind at) ≡ false
 no_map_behind place.Boot h = refl

@@ -1,5 +1,5 @@
 -- Reading line by line comes to the sections and the first fault of the file.
-use Rattle.std.proofs.Common.{◌≡◌, ℕ, suc, ◌+◌, ◌-◌, ◌<◌, ◌≤◌, length, drop, get_or, Bool, true, false, ◌==◌, cond, if◌then◌else◌, List, [], ◌∷◌, ◌++◌, Option, None, Some, is_some, Result, fold, refl, ap, sym, ◌∙◌, subst, append_assoc, append-nil, arith}
+use Rattle.std.proofs.Common.{◌≡◌, ℕ, suc, ◌+◌, ◌-◌, ◌<◌, ◌≤◌, length, drop, get_or, Bool, true, false, ◌==◌, if◌then◌else◌, List, [], ◌∷◌, ◌++◌, Option, None, Some, is_some, Result, fold, refl, ap, sym, ◌∙◌, subst, append_assoc, append-nil, arith}
 use Rattle.std.proofs.lemmas.Bool.{false≢true}
 use Rattle.std.proofs.lemmas.Bool.Decides.{nat_tests}
 use Rattle.std.proofs.lemmas.List.Sums.{fold-append}
@@ -12,7 +12,7 @@ use Rattle.xs_sections.specs.Cut.{paragraph_lines, map_lines, c_lines, last_name
 use Rattle.xs_sections.specs.Faults as fault
 use Rattle.xs_sections.specs.Faults.{fault_at, line_fault, room_fault, room_behind, line_faults, is_module, is_pod_begin, is_pod_end, is_map_end, unless_behind, pod_fault, map_fault, faults_of, earlier, first_of}
 use Rattle.xs_sections.specs.Marks as mark
-use Rattle.xs_sections.specs.Steps.{begun, noted, counted, closed_with, closed, acted, starts_at, step, run, is_c_part, is_map, module_noted, pod_noted_at, pod_noted, map_noted, open_noted, told, finished}
+use Rattle.xs_sections.specs.Steps.{begun, noted, counted, closed_with, closed, acted, starts_at, step, run, is_c_part, is_map, module_noted, pod_noted_at, pod_noted, map_noted, open_noted, told, finished, class_behind}
 use Rattle.xs_sections.specs.declared.class.Class.{Class}
 use Rattle.xs_sections.specs.declared.class.Class.TheVariants as class
 use Rattle.xs_sections.specs.declared.class.ModuleNames.{ModuleNames}
@@ -21,7 +21,7 @@ use Rattle.xs_sections.specs.declared.class.Place.TheVariants as place
 use Rattle.xs_sections.specs.declared.reading.Reading.{Reading}
 use Rattle.xs_sections.specs.declared.sections.Part.{Part}
 use Rattle.xs_sections.specs.declared.sections.Sections.{Sections}
-use Rattle.xs_sections.proofs.Places.{tag, no_map_behind, no_c_behind, no_map_blank, no_c_blank, gap_map, gap_c, gap_text}
+use Rattle.xs_sections.proofs.Places.{same_cond, tag, no_map_behind, no_c_behind, no_map_blank, no_c_blank, gap_map, gap_c, gap_text}
 use Rattle.xs_sections.proofs.Fits.{HasLine, HasLine-push, Good, Fits, Can, class_of_fits}
 
 -- ---- what the lines that are left add to what was read
@@ -175,10 +175,6 @@ no_c_in_map : (at : Place) → is_map at ≡ true → is_c_part at ≡ false
 no_c_in_map place.CPart h = absurd (false≢true h)
 no_c_in_map _ h = refl
 
-same_cond : (b : Bool) → cond b [] [] ≡ (let none : List Fault = [] in none)
-same_cond true = refl
-same_cond false = refl
-
 goes : (c : Class) (l : Line) (s : Reading) (starts : Bool) (ts : List Tag) → Good s.at s.lines → Fits s.at s.lines c → FitsPod s.pod c → Goes s (acted c l s) (tag c l starts) ts
 unfolding acted parts_of
 goes class.PodBegin l s starts ts good fits fits_pod =
@@ -282,7 +278,7 @@ goes (class.Module names) l s starts ts good fits fits_pod =
       names = refl;
       module_line = refl;
       parts = closing s.parts s.at s.names s.lines (tag (class.Module names) l starts) ts (parts_of names ts) fits refl refl;
-      no_module = sym (same_cond (is_c_part s.at));
+      no_module = sym (same_cond (is_c_part s.at) []);
       no_cut = pod_goes_on s.pod (class.Module names) l starts ts refl refl;
       no_end = rw fits refl;
       good = (λ e. absurd (false≢true e));
@@ -298,7 +294,7 @@ goes class.BadModule l s starts ts good fits fits_pod =
       names = refl;
       module_line = refl;
       parts = closing s.parts s.at s.names s.lines (tag class.BadModule l starts) ts (parts_of s.names ts) fits refl refl;
-      no_module = sym (same_cond (is_c_part s.at));
+      no_module = sym (same_cond (is_c_part s.at) []);
       no_cut = pod_goes_on s.pod class.BadModule l starts ts refl refl;
       no_end = rw fits refl;
       good = (λ e. absurd (false≢true e));
@@ -494,23 +490,20 @@ counted_is true line s = by_test (s.room == 0) refl
 
 -- ---- a line more
 
-abbrev class_here : Reading → Line → Class
-class_here s l = class_of (is_some s.pod) s.at l.text
-
 abbrev counted_at : Reading → Line → Reading
 counted_at s l = record s { fault = fold earlier s.fault (room_fault l.number (starts_at s l) s.room); room = room_behind (starts_at s l) s.room }
 
 abbrev stepped : Reading → Line → Reading
-stepped s l = acted (class_here s l) l (counted_at s l)
+stepped s l = acted (class_behind s l) l (counted_at s l)
 
 step_is : (s : Reading) (l : Line) → step s l ≡ stepped s l
 unfolding step
-step_is s l = ap (λ (r : Reading). acted (class_here s l) l r) (counted_is (starts_at s l) l.number s)
+step_is s l = ap (λ (r : Reading). acted (class_behind s l) l r) (counted_is (starts_at s l) l.number s)
 
-goes_here : (s : Reading) (l : Line) (ts : List Tag) → Good s.at s.lines → Goes (counted_at s l) (stepped s l) (tag (class_here s l) l (starts_at s l)) ts
+goes_here : (s : Reading) (l : Line) (ts : List Tag) → Good s.at s.lines → Goes (counted_at s l) (stepped s l) (tag (class_behind s l) l (starts_at s l)) ts
 goes_here s l ts good =
-    let fits : Can s.at s.lines (class_here s l) = class_of_fits (is_some s.pod) s.at s.lines good l.text in
-    goes (class_here s l) l (counted_at s l) (starts_at s l) ts good fits.fits (pod_fits s.pod s.at l.text)
+    let fits : Can s.at s.lines (class_behind s l) = class_of_fits (is_some s.pod) s.at s.lines good l.text in
+    goes (class_behind s l) l (counted_at s l) (starts_at s l) ts good fits.fits (pod_fits s.pod s.at l.text)
 
 folds : (x : Option Fault) (a b c d e f : List Fault)
     → fold earlier (fold earlier (fold earlier x a) b) (c ++ d ++ e ++ f) ≡ fold earlier x (a ++ b ++ c ++ d ++ e ++ f)
@@ -519,12 +512,12 @@ folds x a b c d e f = simp fold-append
 rest_step : (s : Reading) (l : Line) (ts : List Tag) → Good s.at s.lines → rest_of (stepped s l) ts ≡ rest_of s (tag_of (is_some s.pod) s.at l ∷ ts)
 unfolding line_faults
 rest_step s l ts good =
-    let g : Goes (counted_at s l) (stepped s l) (tag (class_here s l) l (starts_at s l)) ts = goes_here s l ts good in
-    let t : Tag = tag (class_here s l) l (starts_at s l) in
+    let g : Goes (counted_at s l) (stepped s l) (tag (class_behind s l) l (starts_at s l)) ts = goes_here s l ts good in
+    let t : Tag = tag (class_behind s l) l (starts_at s l) in
     let n : Reading = stepped s l in
     let faults : fold earlier n.fault (rest_faults n ts) ≡ fold earlier s.fault (rest_faults s (t ∷ ts)) =
     rw (g.fault, g.room, g.no_module, g.no_cut, g.no_end)
-    (folds s.fault (room_fault l.number (starts_at s l) s.room) (line_fault l.number (class_here s l)) (line_faults (room_behind (starts_at s l) s.room) ts)
+    (folds s.fault (room_fault l.number (starts_at s l) s.room) (line_fault l.number (class_behind s l)) (line_faults (room_behind (starts_at s l) s.room) ts)
     (rest_module s.at (t ∷ ts)) (rest_pod s.pod (t ∷ ts)) (rest_map s.at s.map_line (t ∷ ts))) in
     let sections : rest_sections n ts ≡ rest_sections s (t ∷ ts) = rw (g.c_part, g.names, g.module_line, g.parts) refl in
     ap (λ (f : Option Fault). unless_fault f (rest_sections n ts)) faults ∙ ap (unless_fault (fold earlier s.fault (rest_faults s (t ∷ ts)))) sections
@@ -596,12 +589,12 @@ runs : (lines : List Line) (s : Reading) → Good s.at s.lines → finished (run
 unfolding run tags_from
 runs [] s good = ends s
 runs (l ∷ lines) s good =
-    let g : Goes (counted_at s l) (stepped s l) (tag (class_here s l) l (starts_at s l)) [] = goes_here s l [] good in
+    let g : Goes (counted_at s l) (stepped s l) (tag (class_behind s l) l (starts_at s l)) [] = goes_here s l [] good in
     ap (λ (n : Reading). finished (run n lines)) (step_is s l)
     ∙ runs lines (stepped s l) g.good
     ∙ ap (λ (pod : Bool). rest_of (stepped s l) (tags_from pod (stepped s l).at lines)) g.pod
-    ∙ ap (λ (at : Place). rest_of (stepped s l) (tags_from (pod_behind (is_some s.pod) (class_here s l)) at lines)) g.at
-    ∙ rest_step s l (tags_from (pod_behind (is_some s.pod) (class_here s l)) (place_behind s.at (class_here s l)) lines) good
+    ∙ ap (λ (at : Place). rest_of (stepped s l) (tags_from (pod_behind (is_some s.pod) (class_behind s l)) at lines)) g.at
+    ∙ rest_step s l (tags_from (pod_behind (is_some s.pod) (class_behind s l)) (place_behind s.at (class_behind s l)) lines) good
 
 -- Reading all lines of a file gives its sections, or its first fault.
 pub whole : (lines : List Line) → finished (run begun lines) ≡ unless_fault (first_of (faults_of (tags_of lines))) (sections_of (tags_of lines))

@@ -5,11 +5,11 @@ use Rattle.std.specs.Str.{bytes_eq}
 use Rattle.std.proofs.lemmas.Bool.{false≢true}
 use Rattle.std.proofs.lemmas.List.Elements.{All-nil, All-cons, All-append}
 use Rattle.xs_base.specs.declared.place.Line.{Line}
-use Rattle.xs_base.specs.Scanning.{is_blank_line}
-use Rattle.xs_sections.specs.Marks.{is_flush_left, begins_with}
+use Rattle.xs_base.specs.Scanning.{begins_with, is_blank_line}
+use Rattle.xs_sections.specs.Marks.{is_flush_left}
 use Rattle.xs_sections.specs.Classes.{Tag, class_of, is_in_text, is_head, place_behind, pod_behind, gap_behind, further_behind, blank_behind, tag_of, tags_from, tags_of}
 use Rattle.xs_sections.specs.Cut.{paragraph_lines, map_lines, lines_in, is_passed, paragraph_of, map_of, parts_of, no_names}
-use Rattle.xs_sections.specs.Faults.{line_fault, room_fault, room_behind, line_faults, is_map_begin, is_map_end, some_line, unless_behind, map_fault}
+use Rattle.xs_sections.specs.Faults.{line_fault, room_behind, line_faults, is_map_begin, is_map_end, some_line, unless_behind, map_fault}
 use Rattle.xs_sections.specs.Laws.{IsOf, IsHeadLine, IsParagraphHead, IsParagraph, EndsBefore, last_line, XsPart}
 use Rattle.xs_sections.specs.Laws as law
 use Rattle.xs_sections.specs.Steps.{is_map, is_c_part}
@@ -19,7 +19,7 @@ use Rattle.xs_sections.specs.declared.class.ModuleNames.{ModuleNames}
 use Rattle.xs_sections.specs.declared.class.Place.{Place}
 use Rattle.xs_sections.specs.declared.class.Place.TheVariants as place
 use Rattle.xs_sections.specs.declared.sections.Part.{Part}
-use Rattle.xs_sections.proofs.CPart.{no_faults, no_fault_behind}
+use Rattle.xs_sections.proofs.CPart.{no_faults, no_fault_behind, own_fault}
 use Rattle.xs_sections.proofs.Fits.{Fits, Can, class_of_fits}
 use Rattle.xs_sections.proofs.Places.{tag, gap_c, gap_map, gap_text}
 use Rattle.xs_sections.proofs.Meanings.{Means, StandsAt, EndsHere, IsEnd, class_of_means, boot_begins}
@@ -44,15 +44,13 @@ record CleanStep (room : ℕ) (t : Tag) (ts : List Tag) : Type 0 where
   rest : Clean (room_behind t.starts room) ts
 
 clean_step : (room : ℕ) (t : Tag) (ts : List Tag) → Clean room (t ∷ ts) → CleanStep room t ts
-unfolding line_faults
 clean_step room t ts c =
-    let a = no_faults (room_fault t.line.number t.starts room ++ line_fault t.line.number t.class) (line_faults (room_behind t.starts room) ts) c.lines in
-    let b = no_faults (room_fault t.line.number t.starts room) (line_fault t.line.number t.class) a.0 in
+    let own = own_fault room t ts c.lines in
     let d = no_faults (if is_map_begin t.class then unless_behind is_map_end t.line.number 106 ts else []) (map_fault ts) c.blocks in
     record {
-      line = b.1;
+      line = own.0;
       block = λ e. no_fault_behind (some_line is_map_end ts) _ (rw e at d.0);
-      rest = record { lines = a.1; blocks = d.1 };
+      rest = record { lines = own.1; blocks = d.1 };
     }
 
 -- ---- the last line of a paragraph

@@ -3,7 +3,8 @@ use Rattle.std.specs.Prelude.{ℕ, Bool, true, false, not, ◌&&◌, if◌then�
 use Rattle.std.specs.Str.{bytes_eq}
 use Rattle.xs_base.specs.declared.place.Line.{Line}
 use Rattle.xs_base.specs.Scanning.{is_blank_line}
-use Rattle.xs_sections.specs.Marks.{begins_pod, ends_pod, is_flush_left, is_comment, is_directive, is_module_line}
+use Rattle.xs_base.specs.Runs.{is_remark}
+use Rattle.xs_sections.specs.Marks.{begins_pod, ends_pod, is_flush_left, is_directive, is_module_line}
 use Rattle.xs_sections.specs.ModuleLine.{module_class}
 use Rattle.xs_sections.specs.Keywords.{head_class}
 use Rattle.xs_sections.specs.declared.class.Class.{Class}
@@ -26,6 +27,7 @@ opens_paragraph place.HeadGap text = is_flush_left text
 opens_paragraph place.BodyGap text = is_flush_left text
 opens_paragraph _ text = false
 
+-- A line whose first byte that is no blank is `#` is a comment. Directives are among them.
 abbrev pub comment_class : List ℕ → Class
 comment_class text = if is_directive text then class.Directive else class.Comment
 
@@ -39,7 +41,7 @@ paragraph_class at text =
 -- a line of the XS part that is in no typemap block
 abbrev pub xs_class : Place → List ℕ → Class
 xs_class at text =
-    if is_comment text then comment_class text
+    if is_remark text then comment_class text
     else (if is_module_line text then module_class text else paragraph_class at text)
 
 -- a line before which no MODULE line stands: the C part ends before the first MODULE line
@@ -49,7 +51,7 @@ c_class text = if is_module_line text then module_class text else class.C
 -- a line of a typemap block, which ends at its end word
 abbrev pub map_line_class : List ℕ → List ℕ → Class
 map_line_class end text =
-    if bytes_eq text end then class.MapEnd else (if is_comment text then comment_class text else class.MapLine)
+    if bytes_eq text end then class.MapEnd else (if is_remark text then comment_class text else class.MapLine)
 
 -- a line that is no POD
 unfoldable pub class_at : Place → List ℕ → Class
@@ -111,6 +113,10 @@ is_head class.First = true
 is_head class.FirstOfBoot = true
 is_head _ = false
 
+-- whether a paragraph begins at a line of a class
+abbrev pub starts_paragraph : Place → Class → List ℕ → Bool
+starts_paragraph at class text = is_head class && opens_paragraph at text
+
 -- A line, what it is, and whether a paragraph begins at it.
 pub record Tag : Type 0 where
   pub line : Line
@@ -122,7 +128,7 @@ tag_of pod at line =
     record {
       line = line;
       class = class_of pod at line.text;
-      starts = is_head (class_of pod at line.text) && opens_paragraph at line.text;
+      starts = starts_paragraph at (class_of pod at line.text) line.text;
     }
 
 -- each line with what it is, by what the lines before it leave open

@@ -1,13 +1,16 @@
 -- The faults of an XS file's sections, and which of them is the first.
 use Rattle.std.specs.Prelude.{ℕ, ◌-◌, Bool, true, false, ◌&&◌, ◌||◌, ◌==◌, nat_lt, if◌then◌else◌, List, [], ◌∷◌, ◌++◌, Option, None, Some, fold}
+use Rattle.std.specs.List.{list_any}
+use Rattle.xs_base.specs.Reading.{fault_in}
 use Rattle.xs_base.specs.declared.fault.Fault.{Fault}
 use Rattle.xs_base.specs.declared.place.FileOf.TheVariants.{Xs}
 use Rattle.xs_sections.specs.Classes.{Tag}
 use Rattle.xs_sections.specs.declared.class.Class.{Class}
 use Rattle.xs_sections.specs.declared.class.Class.TheVariants as class
 
+-- a fault of the XS file
 abbrev pub fault_at : ℕ → ℕ → List ℕ → Fault
-fault_at line code word = record { file = Xs; line = line; code = code; word = word }
+fault_at = fault_in Xs
 
 -- the number of paragraphs that a file may have
 abbrev pub paragraph_limit : ℕ
@@ -57,8 +60,7 @@ is_map_end _ = false
 
 -- some line is of such a class
 abbrev pub some_line : (Class → Bool) → List Tag → Bool
-some_line is [] = false
-some_line is (t ∷ ts) = if is t.class then true else some_line is ts
+some_line is ts = list_any (λ (t : Tag). is t.class) ts
 
 -- a fault where no such line stands behind
 abbrev pub unless_behind : (Class → Bool) → ℕ → ℕ → List Tag → List Fault

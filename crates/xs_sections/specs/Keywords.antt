@@ -3,9 +3,8 @@ use Rattle.std.specs.Prelude.{ℕ, Bool, true, false, not, ◌&&◌, ◌||◌, �
 use Rattle.std.specs.Str.{bytes_eq}
 use Rattle.xs_base.specs.Names.{is_among}
 use Rattle.xs_base.specs.Runs.{behind, behind_blanks, front_of}
-use Rattle.xs_base.specs.Scanning.{after_word, is_blank_line, is_identifier}
+use Rattle.xs_base.specs.Scanning.{after_word, begins_with, is_blank_line, is_identifier}
 use Rattle.xs_base.specs.declared.runs.ByteClass.TheVariants.{Capital, NoBlank, Word}
-use Rattle.xs_sections.specs.Marks.{begins_with}
 use Rattle.xs_sections.specs.declared.class.Class.{Class}
 use Rattle.xs_sections.specs.declared.class.Class.TheVariants.{Keyword, BadValue, LeftOut, MapBegin, First, FirstOfBoot}
 

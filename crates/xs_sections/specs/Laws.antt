@@ -6,8 +6,9 @@ use Rattle.xs_base.specs.declared.fault.Fault.{Fault}
 use Rattle.xs_base.specs.declared.fault.Refuse.{Refuse}
 use Rattle.xs_base.specs.declared.fault.Refuse.TheVariants as refuse
 use Rattle.xs_base.specs.declared.place.Line.{Line}
-use Rattle.xs_base.specs.Scanning.{is_blank_line}
-use Rattle.xs_sections.specs.Marks.{begins_with, begins_pod, ends_pod, is_flush_left, is_comment, is_directive, is_module_line}
+use Rattle.xs_base.specs.Scanning.{begins_with, is_blank_line}
+use Rattle.xs_base.specs.Runs.{is_remark}
+use Rattle.xs_sections.specs.Marks.{begins_pod, ends_pod, is_flush_left, is_directive, is_module_line}
 use Rattle.xs_sections.specs.ModuleLine.{module_names}
 use Rattle.xs_sections.specs.Keywords.{head_class}
 use Rattle.xs_sections.specs.Classes.{Tag, tags_of}
@@ -26,18 +27,29 @@ use Rattle.xs_sections.specs.declared.sections.Sections.{Sections}
 -- a line that is neither POD nor a comment nor a MODULE line
 pub record IsPlain (text : List ℕ) : Type 0 where
   pub no_pod : begins_pod text ≡ false
-  pub no_comment : is_comment text ≡ false
+  pub no_comment : is_remark text ≡ false
   pub no_module : is_module_line text ≡ false
+
+abbrev pub IsPlainLine : Line → Type 0
+IsPlainLine line = IsPlain line.text
 
 pub record IsComment (text : List ℕ) (directive : Bool) : Type 0 where
   pub no_pod : begins_pod text ≡ false
-  pub comment : is_comment text ≡ true
+  pub comment : is_remark text ≡ true
   pub directive_is : is_directive text ≡ directive
 
 pub record IsModule (text : List ℕ) (names : Option ModuleNames) : Type 0 where
   pub no_pod : begins_pod text ≡ false
   pub first_word : is_module_line text ≡ true
   pub names_are : module_names text ≡ names
+
+-- A typemap block holds no POD and no comment. It may hold a MODULE line.
+pub record IsInMap (text : List ℕ) : Type 0 where
+  pub no_pod : begins_pod text ≡ false
+  pub no_comment : is_remark text ≡ false
+
+abbrev pub IsMapLine : Line → Type 0
+IsMapLine line = IsInMap line.text
 
 pub record IsLine (text : List ℕ) (empty : Bool) : Type 0 where
   pub plain : IsPlain text
@@ -63,7 +75,7 @@ IsOf text class.Keyword = IsHeadLine text class.Keyword
 IsOf text class.BadValue = IsHeadLine text class.BadValue
 IsOf text (class.LeftOut word) = IsHeadLine text (class.LeftOut word)
 IsOf text (class.MapBegin end) = IsHeadLine text (class.MapBegin end)
-IsOf text class.MapLine = (begins_pod text ≡ false) × (is_comment text ≡ false)
+IsOf text class.MapLine = IsInMap text
 IsOf text class.MapEnd = begins_pod text ≡ false
 IsOf text class.First = IsHeadLine text class.First
 IsOf text class.FirstOfBoot = IsHeadLine text class.FirstOfBoot
@@ -83,17 +95,21 @@ is_in_part class.Further = true
 is_in_part class.Blank = true
 is_in_part _ = false
 
--- The module and its line are those of the last MODULE line.
-pub record IsLastModule (ts : List Tag) (s : Sections) : Type 0 where
+-- the last MODULE line of tags, with the names that it sets and its number
+pub record IsLast (ts : List Tag) (names : ModuleNames) (number : ℕ) : Type 0 where
   pub before : List Tag
   pub last : Tag
   pub behind : List Tag
-  pub names : ModuleNames
   pub stands : ts ≡ before ++ last ∷ behind
   pub sets : last.class ≡ class.Module names
-  pub module_is : names.module ≡ s.module
-  pub line_is : last.line.number ≡ s.module_line
+  pub line_is : last.line.number ≡ number
   pub no_later : some_line is_module behind ≡ false
+
+-- The module and its line are those of the last MODULE line.
+pub record IsLastModule (ts : List Tag) (s : Sections) : Type 0 where
+  pub names : ModuleNames
+  pub line : IsLast ts names s.module_line
+  pub module_is : names.module ≡ s.module
 
 -- Each line of the file, in order and with its number, has one class. The C part has the lines of its class, and the parts have the lines
 -- of paragraphs and typemap blocks, each line once and in order. What is left is POD, a comment, a MODULE line, a file keyword, the line
@@ -132,7 +148,7 @@ from_module (line ∷ lines) = if is_module_line line.text then line ∷ lines e
 
 abbrev pub without_comments : List Line → List Line
 without_comments [] = []
-without_comments (line ∷ lines) = if is_comment line.text then without_comments lines else line ∷ without_comments lines
+without_comments (line ∷ lines) = if is_remark line.text then without_comments lines else line ∷ without_comments lines
 
 -- ---- paragraphs
 
@@ -149,14 +165,9 @@ EndsAtGap (line ∷ lines) = (is_blank_line line.text ≡ true → lines ≡ [])
 -- A paragraph begins with a line that is not empty, and holds no POD, no comment and no MODULE line.
 pub record IsParagraph (first : Line) (further : List Line) : Type 0 where
   pub some : is_blank_line first.text ≡ false
-  pub plain : All (λ (l : Line). IsPlain l.text) (first ∷ further)
+  pub plain : All IsPlainLine (first ∷ further)
   pub together : HoldsTogether first further
   pub boot : begins_with (codes "BOOT:") first.text ≡ true → EndsAtGap further
-
--- A typemap block holds no POD and no comment. It may hold a MODULE line.
-pub record IsMapLine (line : Line) : Type 0 where
-  pub no_pod : begins_pod line.text ≡ false
-  pub no_comment : is_comment line.text ≡ false
 
 abbrev pub IsBody : PartBody → Type 0
 IsBody (Para []) = ⊥

@@ -1,15 +1,11 @@
 -- What a line is by its own text: POD, a comment, a directive, a MODULE line.
-use Rattle.std.specs.Prelude.{ℕ, Bool, false, ◌&&◌, ◌||◌, ◌==◌, List, [], ◌∷◌, is_some, codes}
+use Rattle.std.specs.Prelude.{ℕ, Bool, false, ◌&&◌, ◌||◌, ◌==◌, List, [], ◌∷◌, codes}
 use Rattle.std.specs.Str.{bytes_eq}
 use Rattle.xs_base.specs.Names.{is_among}
 use Rattle.xs_base.specs.Readers.{head_is}
 use Rattle.xs_base.specs.Runs.{behind, behind_blanks, belongs, front_of}
-use Rattle.xs_base.specs.Scanning.{after_word}
+use Rattle.xs_base.specs.Scanning.{begins_with}
 use Rattle.xs_base.specs.declared.runs.ByteClass.TheVariants.{Blank, Digit, Letter, NoBlank, Word}
-
--- A line begins with a text.
-abbrev pub begins_with : List ℕ → List ℕ → Bool
-begins_with word line = is_some (after_word word line)
 
 -- A line that begins with `=` and a letter starts POD.
 abbrev pub begins_pod : List ℕ → Bool
@@ -23,10 +19,6 @@ ends_pod line = begins_with (codes "=cut") line
 -- A line that begins with a byte that is no blank.
 abbrev pub is_flush_left : List ℕ → Bool
 is_flush_left line = head_is (belongs NoBlank) line
-
--- A line is a comment where its first byte that is no blank is `#`. Directives are among them.
-abbrev pub is_comment : List ℕ → Bool
-is_comment line = begins_with (codes "#") (behind_blanks line)
 
 -- the words that alone make a directive
 abbrev pub directive_words : List (List ℕ)

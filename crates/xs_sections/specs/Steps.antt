@@ -1,8 +1,8 @@
 -- What the reader of an XS file keeps, and how it goes on by a line.
-use Rattle.std.specs.Prelude.{ℕ, ◌-◌, Bool, true, false, ◌&&◌, ◌==◌, if◌then◌else◌, List, [], ◌∷◌, ◌++◌, Option, None, Some, is_some, Result}
+use Rattle.std.specs.Prelude.{ℕ, ◌-◌, Bool, true, false, ◌==◌, if◌then◌else◌, List, [], ◌∷◌, ◌++◌, Option, None, Some, is_some, Result}
 use Rattle.xs_base.specs.declared.fault.Fault.{Fault}
 use Rattle.xs_base.specs.declared.place.Line.{Line}
-use Rattle.xs_sections.specs.Classes.{class_of, is_head, opens_paragraph, gap_behind, further_behind, blank_behind}
+use Rattle.xs_sections.specs.Classes.{class_of, starts_paragraph, gap_behind, further_behind, blank_behind}
 use Rattle.xs_sections.specs.Faults.{fault_at, earlier, paragraph_limit}
 use Rattle.xs_sections.specs.Cut.{no_names, part_of, unless_fault}
 use Rattle.xs_sections.specs.declared.class.Class.{Class}
@@ -102,7 +102,7 @@ abbrev pub class_behind : Reading → Line → Class
 class_behind s line = class_of (is_some s.pod) s.at line.text
 
 abbrev pub starts_at : Reading → Line → Bool
-starts_at s line = is_head (class_behind s line) && opens_paragraph s.at line.text
+starts_at s line = starts_paragraph s.at (class_behind s line) line.text
 
 unfoldable pub step : Reading → Line → Reading
 step s line = acted (class_behind s line) line (counted (starts_at s line) line.number s)

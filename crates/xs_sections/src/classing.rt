@@ -1,13 +1,13 @@
 //! Says what a line is, by its text and by what the lines before it leave open.
-ghost use Rattle.std.specs.Prelude.{◌≡◌, ◌&&◌, IfOk};
+ghost use Rattle.std.specs.Prelude.{◌≡◌, IfOk};
 ghost use Rattle.xs_sections.specs.Classes as spec;
 
 use crate::class::{Class, Place};
 use crate::keywords::head_class;
-use crate::marks::{begins_pod, ends_pod, is_comment, is_directive, is_flush_left, is_module_line};
+use crate::marks::{begins_pod, ends_pod, is_directive, is_flush_left, is_module_line};
 use crate::module_line::module_class;
 use std::alloc::Global;
-use xs_base::{Memory, is_blank_line};
+use xs_base::{Memory, is_blank_line, is_remark};
 
 fn is_in_text(at: &Place) -> bool
     ensures { result ≡ spec.is_in_text at.now }
@@ -42,7 +42,7 @@ fn is_head(class: &Class) -> bool
 
 /// Whether a paragraph begins at a line of this class.
 pub fn starts_paragraph(at: &Place, class: &Class, text: &[u8]) -> bool
-    ensures { result ≡ (spec.is_head class.now && spec.opens_paragraph at.now text.now) }
+    ensures { result ≡ spec.starts_paragraph at.now class.now text.now }
 {
     is_head(class) && opens_paragraph(at, text)
 }
@@ -96,7 +96,7 @@ fn map_line_class(end: &[u8], text: &[u8]) -> Class
 {
     if text == end {
         Class::MapEnd
-    } else if is_comment(text) {
+    } else if is_remark(text) {
         comment_class(text)
     } else {
         Class::MapLine
@@ -106,7 +106,7 @@ fn map_line_class(end: &[u8], text: &[u8]) -> Class
 fn xs_class(alloc: Global, at: &Place, text: &[u8]) -> Result<Class, Memory>
     ensures { IfOk result (λ class. class ≡ spec.xs_class at.now text.now) }
 {
-    if is_comment(text) {
+    if is_remark(text) {
         Ok(comment_class(text))
     } else if is_module_line(text) {
         module_class(alloc, text)

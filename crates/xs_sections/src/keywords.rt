@@ -6,11 +6,10 @@ ghost use Rattle.xs_base.specs.declared.runs.ByteClass.TheVariants.{Word};
 ghost use Rattle.xs_sections.specs.Keywords as spec;
 
 use crate::class::Class;
-use crate::marks::begins_with;
 use std::alloc::Global;
 use xs_base::{
-    ByteClass, Bytes, Memory, after_word, behind_blanks, cut_run, is_among, is_blank_line,
-    is_identifier,
+    ByteClass, Bytes, Memory, after_word, begins_with, behind_blanks, cut_run, is_among,
+    is_blank_line, is_identifier,
 };
 
 /// The file keywords that are left out.

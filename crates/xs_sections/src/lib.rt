@@ -12,6 +12,5 @@ mod splitting;
 #[cfg(test)]
 mod tests;
 
-pub use reading::fault_at;
 pub use sections::{Part, PartBody, Sections};
 pub use splitting::split;

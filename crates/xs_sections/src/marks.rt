@@ -4,20 +4,13 @@ ghost use Rattle.xs_base.specs.Runs.{behind, front_of};
 ghost use Rattle.xs_base.specs.declared.runs.ByteClass.TheVariants.{Word};
 ghost use Rattle.xs_sections.specs.Marks as spec;
 
-use xs_base::{ByteClass, after_word, begins_with_class, behind_blanks, cut_run, is_among};
+use xs_base::{ByteClass, begins_with, begins_with_class, behind_blanks, cut_run, is_among};
 
 /// The words that alone make a directive.
 const DIRECTIVES: [&str; 11] = [
     "define", "undef", "if", "ifdef", "ifndef", "else", "elif", "endif", "error", "pragma",
     "warning",
 ];
-
-/// A line that begins with a text.
-pub fn begins_with(word: &[u8], line: &[u8]) -> bool
-    ensures { result ≡ spec.begins_with word.now line.now }
-{
-    after_word(word, line).is_some()
-}
 
 /// A line that begins with `=` and a letter starts POD.
 pub fn begins_pod(line: &[u8]) -> bool
@@ -41,13 +34,6 @@ pub fn is_flush_left(line: &[u8]) -> bool
     ensures { result ≡ spec.is_flush_left line.now }
 {
     begins_with_class(ByteClass::NoBlank, line)
-}
-
-/// A line is a comment where its first byte that is no blank is `#`. Directives are among them.
-pub fn is_comment(line: &[u8]) -> bool
-    ensures { result ≡ spec.is_comment line.now }
-{
-    begins_with(b"#", behind_blanks(line))
 }
 
 /// A line that the C preprocessor would take: `#` as its first byte and a word of the preprocessor behind it.

@@ -1,7 +1,7 @@
 //! What was read of an XS file so far.
 ghost use Rattle.std.specs.Prelude.{◌≡◌, OnOk};
 ghost use Rattle.xs_base.specs.Reading.{Gives};
-ghost use Rattle.xs_sections.specs.Faults.{fault_at, is_before};
+ghost use Rattle.xs_sections.specs.Faults.{is_before};
 ghost use Rattle.xs_sections.specs.Steps as spec;
 
 use crate::class::{Class, ModuleNames, Place};
@@ -33,18 +33,6 @@ pub struct Reading {
     room: u32,
     /// The first fault so far.
     fault: Option<Fault>,
-}
-
-/// A fault of the XS file.
-pub fn fault_at(line: u32, code: u16, word: Bytes) -> Fault
-    ensures { result ≡ fault_at line code word }
-{
-    Fault {
-        file: FileOf::Xs,
-        line,
-        code,
-        word,
-    }
 }
 
 /// Whether a fault is told before another: at a lesser line, or at the same line with a lesser code.
@@ -137,7 +125,7 @@ impl Reading {
     {
         if starts {
             if self.room == 0 {
-                self.note(fault_at(line, 107, Bytes::new(alloc)));
+                self.note(Fault::bare(alloc, FileOf::Xs, line, 107));
             } else {
                 self.room -= 1;
             }
@@ -154,17 +142,17 @@ impl Reading {
             Class::PodLine | Class::Comment => {}
             Class::PodEnd => self.pod = None,
             Class::C => self.c_part.push(line)?,
-            Class::Directive => self.note(fault_at(line.number, 104, Bytes::new(alloc))),
+            Class::Directive => self.note(Fault::bare(alloc, FileOf::Xs, line.number, 104)),
             Class::Module(names) => self.begin_module(alloc, names, line.number)?,
             Class::BadModule => self.bad_module(alloc, line.number)?,
             Class::Outside => self.leave_gap(alloc)?,
             Class::Keyword => self.stay_at_head(alloc)?,
             Class::BadValue => {
-                self.note(fault_at(line.number, 109, Bytes::new(alloc)));
+                self.note(Fault::bare(alloc, FileOf::Xs, line.number, 109));
                 self.stay_at_head(alloc)?;
             }
             Class::LeftOut(word) => {
-                self.note(fault_at(line.number, 108, word));
+                self.note(Fault::new(FileOf::Xs, line.number, 108, word));
                 self.stay_at_head(alloc)?;
             }
             Class::MapBegin(end) => self.begin_map(alloc, end, line.number)?,
@@ -191,7 +179,7 @@ impl Reading {
     fn bad_module(&mut self, alloc: Global, line: u32) -> Result<(), Memory>
         ensures { OnOk result (self.new ≡ spec.module_refused line self.old) }
     {
-        self.note(fault_at(line, 103, Bytes::new(alloc)));
+        self.note(Fault::bare(alloc, FileOf::Xs, line, 103));
         self.close(alloc)?;
         self.module_line = line;
         self.at = Place::Between;
@@ -307,7 +295,7 @@ impl Reading {
         ensures { self.new ≡ spec.module_noted self.old }
     {
         if matches!(self.at, Place::CPart) {
-            self.note(fault_at(1, 102, Bytes::new(alloc)));
+            self.note(Fault::bare(alloc, FileOf::Xs, 1, 102));
         }
     }
 
@@ -315,7 +303,7 @@ impl Reading {
         ensures { self.new ≡ spec.pod_noted self.old }
     {
         if let Some(line) = self.pod {
-            self.note(fault_at(line, 105, Bytes::new(alloc)));
+            self.note(Fault::bare(alloc, FileOf::Xs, line, 105));
         }
     }
 
@@ -323,7 +311,7 @@ impl Reading {
         ensures { self.new ≡ spec.map_noted self.old }
     {
         if matches!(self.at, Place::Map(_)) {
-            self.note(fault_at(self.map_line, 106, Bytes::new(alloc)));
+            self.note(Fault::bare(alloc, FileOf::Xs, self.map_line, 106));
         }
     }
 }

@@ -1,11 +1,10 @@
 -- What a text in pieces is cut into, from one state of the machine to another.
-use Rattle.std.proofs.Common.{◌≡◌, ℕ, zero, suc, ◌+◌, List, [], ◌∷◌, ◌++◌, map, refl, sym, ap, ◌∙◌}
+use Rattle.std.proofs.Common.{◌≡◌, ℕ, zero, suc, ◌+◌, List, [], ◌∷◌, ◌++◌, map, refl, sym, ap, ap₂, ◌∙◌}
 use Rattle.std.proofs.lemmas.List.{map-append}
-use Rattle.std.specs.Prelude.{Ok, Option}
+use Rattle.std.specs.Prelude.{Ok}
 use Rattle.xs_base.specs.declared.place.FileOf.TheVariants as file
 use Rattle.xs_ctok.specs.declared.state.Mode.TheVariants as mode
 use Rattle.xs_ctok.specs.declared.state.State.{State}
-use Rattle.xs_ctok.specs.declared.token.Sort.{Sort}
 use Rattle.xs_ctok.specs.declared.token.Sort.TheVariants as sort
 use Rattle.xs_ctok.specs.declared.token.Token.{Token}
 use Rattle.xs_ctok.specs.Lexemes.{Lexeme, Moved, at_line, behind, run}
@@ -69,13 +68,6 @@ are_both (Bare text ∷ ps) qs x y = (x.0, are_both ps qs x.1 y)
 are_both (Blank blanks ∷ ps) qs x y = (x.0, are_both ps qs x.1 y)
 are_both (Line text ∷ ps) qs x y = (x.0, are_both ps qs x.1 y)
 
-same_joined : {A : Type 0} {a b c d : List A} → a ≡ b → c ≡ d → a ++ c ≡ b ++ d
-same_joined e f = cc
-
--- what is told of the sorts of two words
-pub two_sorts : {A : Type 0} (f : Option Sort → Option Sort → A) {a b c d : Option Sort} → a ≡ b → c ≡ d → f a c ≡ f b d
-two_sorts f e h = cc
-
 pub nothing_cut : (a : State) → Cut [] a a []
 nothing_cut a = record { fine = tt; lexemes = []; runs = refl; told = refl }
 
@@ -84,5 +76,5 @@ joined {ps = ps} {qs = qs} {a = a} {b = b} {c = c} {ts = ts} {us = us} x y = rec
   fine = are_both ps qs x.fine y.fine;
   lexemes = x.lexemes ++ y.lexemes;
   runs = run_pieces-append a ps qs ∙ ap (λ (m : Moved). behind m.lexemes (run_pieces m.state qs)) x.runs ∙ ap (behind x.lexemes) y.runs;
-  told = map-append (token_of file.Text) x.lexemes y.lexemes ∙ same_joined x.told y.told ∙ sym (map-append Ok ts us);
+  told = map-append (token_of file.Text) x.lexemes y.lexemes ∙ ap₂ ◌++◌ x.told y.told ∙ sym (map-append Ok ts us);
 }

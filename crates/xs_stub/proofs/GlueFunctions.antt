@@ -1,5 +1,6 @@
 -- The functions of the glue: their texts, cut into tokens, and what stands there.
-use Rattle.std.proofs.Common.{◌≡◌, ℕ, ◌+◌, List, [], ◌∷◌, ◌++◌, codes, length, map, append-nil, append_assoc, refl, sym, ap, ◌∙◌, subst, arith}
+use Rattle.std.proofs.Common.{◌≡◌, ℕ, ◌+◌, List, [], ◌∷◌, ◌++◌, codes, length, map, append-nil, append_assoc, refl, sym, ap, ap₂, ◌∙◌, subst, arith}
+use Rattle.std.proofs.lemmas.List.Elements.{All-from_recursion, All-weaker, recursion_from_All}
 use Rattle.std.specs.Fmt.{decimal}
 use Rattle.std.specs.List.{flat_map}
 use Rattle.std.specs.Prelude.{Ok, true}
@@ -12,22 +13,22 @@ use Rattle.xs_csyn.specs.declared.tree.PerlForm.TheVariants as form
 use Rattle.xs_csyn.specs.Grammar as g
 use Rattle.xs_csyn.specs.Input.{is_key}
 use Rattle.xs_base.specs.Readers.{head_is}
-use Rattle.xs_ctok.specs.Lexemes.{Sign, Text, Word, at_line, begin}
+use Rattle.xs_ctok.specs.Lexemes.{Lexeme, Sign, Text, Word, at_line, begin}
 use Rattle.xs_ctok.specs.Pieces.{Plain, Name, IsName}
 use Rattle.xs_ctok.specs.Tokens.{word_token}
 use Rattle.xs_csyn.specs.Tree.{Var, Num, Str, Two, StmtTree, Block, Declare, Effect, If, Perl, ItemTree, XsFunction, stmts_of, StmtTrees, unlined_item, unlined_stmts}
 use Rattle.xs_ctok.specs.Words.{sort_word}
 use Rattle.xs_iface.specs.declared.xsub.Module.{Module}
 use Rattle.xs_iface.specs.declared.xsub.Param.{Param}
-use Rattle.xs_iface.specs.declared.xsub.Term.{Term}
 use Rattle.xs_iface.specs.declared.xsub.Xsub.{Xsub}
 use Rattle.xs_iface.specs.Iface.{underscored}
-use Rattle.xs_iface.specs.SumForm.{All, IsSumModule, IsSumXsub, IsTermOf}
+use Rattle.std.specs.List.{AllByRecursion as All}
+use Rattle.xs_iface.specs.SumForm.{IsSumModule, IsSumXsub, IsTermOf}
 use Rattle.xs_iface.specs.Words.{is_free}
 use Rattle.xs_stub.specs.Intended.{boot_tree, call_of, declared_param, inputs_from, int_type, registration, return_one, returned_value, sum_of, sv_pointer, usage_test, work_of, xsub_tree}
-use Rattle.xs_stub.specs.Stub.{joined_names, more_joined, name_of}
-use Rattle.xs_stub.proofs.Cuts.{Cut, called, fresh, joined, key, later, nothing_cut, number, quoted, sign, two_sorts}
-use Rattle.xs_stub.proofs.GluePieces.{boot_pieces, head_pieces, more_pieces, names_pieces, registration_pieces, work_pieces, xsub_pieces}
+use Rattle.xs_stub.specs.Stub.{joined_names, name_of}
+use Rattle.xs_stub.proofs.Cuts.{Cut, called, fresh, joined, key, later, nothing_cut, number, quoted, sign}
+use Rattle.xs_stub.proofs.GluePieces.{boot_pieces, head_pieces, behind_separator, names_pieces, registration_pieces, work_pieces, xsub_pieces}
 use Rattle.xs_stub.proofs.GlueWords.{IsWordOf, boot_is_name, decimal_word, free_name, glue_is_word, term_word}
 use Rattle.xs_stub.proofs.Standing.{Body, Functions, FunctionsAt, Items, Stand, StandAt, each_tree, no_stmt, regrouped, stated, then_trees}
 use Rattle.xs_stub.proofs.Statements.{EndAt, alone, declarations_stand, end_stands, inputs_stand, registrations_stand, results_stand}
@@ -43,10 +44,10 @@ longer text name more =
     append_assoc ((text ++ 44 ∷ []) ++ 32 ∷ []) name more
     ∙ append_assoc (text ++ 44 ∷ []) (32 ∷ []) (name ++ more) ∙ append_assoc text (44 ∷ []) (32 ∷ (name ++ more))
 
-more_names_cut : (k : ℕ) (text : List ℕ) (ps : List Param) → All (λ p. is_free p.name ≡ true) ps → Cut (more_pieces (codes ", ") name_of ps) (at_line k (mode.Text text)) (at_line k (mode.Text (text ++ more_joined (codes ", ") name_of ps))) []
+more_names_cut : (k : ℕ) (text : List ℕ) (ps : List Param) → All (λ p. is_free p.name ≡ true) ps → Cut (flat_map (behind_separator (codes ", ") name_of) ps) (at_line k (mode.Text text)) (at_line k (mode.Text (text ++ flat_map (λ param. codes ", " ++ name_of param) ps))) []
 more_names_cut k text [] free = subst (λ t. Cut [] (at_line k (mode.Text text)) (at_line k (mode.Text t)) []) (sym (append-nil text)) (nothing_cut (at_line k (mode.Text text)))
 more_names_cut k text (p ∷ ps) free =
-    subst (λ t. Cut (more_pieces (codes ", ") name_of (p ∷ ps)) (at_line k (mode.Text text)) (at_line k (mode.Text t)) []) (longer text p.name (more_joined (codes ", ") name_of ps))
+    subst (λ t. Cut (flat_map (behind_separator (codes ", ") name_of) (p ∷ ps)) (at_line k (mode.Text text)) (at_line k (mode.Text t)) []) (longer text p.name (flat_map (λ param. codes ", " ++ name_of param) ps))
     (joined (name_cut k text p (free_name p.name free.0).is_name) (more_names_cut k (((text ++ 44 ∷ []) ++ 32 ∷ []) ++ p.name) ps free.1))
 
 first_name_cut : (k : ℕ) (p : Param) → IsName p.name → Cut (Name p.name ∷ []) (at_line k (mode.Text [])) (at_line k (mode.Text p.name)) []
@@ -58,12 +59,23 @@ names_cut k (p ∷ ps) free = joined (first_name_cut k p (free_name p.name free.
 
 -- ---- the head of a glue function
 
+-- a function up to its brace, and what stands behind it
+abbrev named_tokens : ℕ → ℕ → List ℕ → List Token → List Token
+named_tokens a b name rest = key a (codes "XS") ∷ sign a (codes "(") ∷ called a name ∷ sign a (codes ")") ∷ sign b (codes "{") ∷ rest
+
+-- a function up to its first statement
+abbrev opening_tokens : ℕ → ℕ → ℕ → List ℕ → List Token → List Token
+opening_tokens a b c name rest = named_tokens a b name (key c (codes "dXSARGS") ∷ sign c (codes ";") ∷ rest)
+
+abbrev opening_lexemes : ℕ → ℕ → ℕ → List ℕ → List Lexeme → List Lexeme
+opening_lexemes a b c name rest =
+    Word a (codes "XS") ∷ Sign a (codes "(") ∷ Word a name ∷ Sign a (codes ")") ∷ Sign b (codes "{") ∷ Word c (codes "dXSARGS") ∷ Sign c (codes ";") ∷ rest
+
 -- up to the opening quote, and from the closing one on
 abbrev before_tokens : ℕ → ℕ → ℕ → ℕ → ℕ → List ℕ → ℕ → List Token → List Token
 before_tokens a b c d e glue count rest =
-    key a (codes "XS") ∷ sign a (codes "(") ∷ called a glue ∷ sign a (codes ")") ∷ sign b (codes "{") ∷ key c (codes "dXSARGS") ∷ sign c (codes ";")
-    ∷ key d (codes "if") ∷ sign d (codes "(") ∷ key d (codes "items") ∷ sign d (codes "!=") ∷ number d count (decimal count) ∷ sign d (codes ")")
-    ∷ key e (codes "croak_xs_usage") ∷ sign e (codes "(") ∷ key e (codes "cv") ∷ sign e (codes ",") ∷ rest
+    opening_tokens a b c glue (key d (codes "if") ∷ sign d (codes "(") ∷ key d (codes "items") ∷ sign d (codes "!=") ∷ number d count (decimal count) ∷ sign d (codes ")")
+    ∷ key e (codes "croak_xs_usage") ∷ sign e (codes "(") ∷ key e (codes "cv") ∷ sign e (codes ",") ∷ rest)
 
 abbrev behind_tokens : ℕ → List ℕ → List Token → List Token
 behind_tokens e text rest = quoted e text ∷ sign e (codes ")") ∷ sign e (codes ";") ∷ sign (e + 1) (codes "{") ∷ rest
@@ -77,11 +89,10 @@ before_cut n glue count w d =
     record {
       fine = (w.is_name, (d.is_name, tt));
       lexemes =
-          Word a (codes "XS") ∷ Sign a (codes "(") ∷ Word a glue ∷ Sign a (codes ")") ∷ Sign b (codes "{") ∷ Word c (codes "dXSARGS") ∷ Sign c (codes ";")
-          ∷ Word f (codes "if") ∷ Sign f (codes "(") ∷ Word f (codes "items") ∷ Sign f (codes "!=") ∷ Word f (decimal count) ∷ Sign f (codes ")")
-          ∷ Word e (codes "croak_xs_usage") ∷ Sign e (codes "(") ∷ Word e (codes "cv") ∷ Sign e (codes ",") ∷ [];
+          opening_lexemes a b c glue (Word f (codes "if") ∷ Sign f (codes "(") ∷ Word f (codes "items") ∷ Sign f (codes "!=") ∷ Word f (decimal count) ∷ Sign f (codes ")")
+          ∷ Word e (codes "croak_xs_usage") ∷ Sign e (codes "(") ∷ Word e (codes "cv") ∷ Sign e (codes ",") ∷ []);
       runs = refl;
-      told = two_sorts (λ s t.
+      told = ap₂ (λ s t.
           Ok (key a (codes "XS")) ∷ Ok (sign a (codes "(")) ∷ word_token file.Text a glue s ∷ Ok (sign a (codes ")")) ∷ Ok (sign b (codes "{")) ∷ Ok (key c (codes "dXSARGS")) ∷ Ok (sign c (codes ";"))
           ∷ Ok (key f (codes "if")) ∷ Ok (sign f (codes "(")) ∷ Ok (key f (codes "items")) ∷ Ok (sign f (codes "!=")) ∷ word_token file.Text f (decimal count) t ∷ Ok (sign f (codes ")"))
           ∷ Ok (key e (codes "croak_xs_usage")) ∷ Ok (sign e (codes "(")) ∷ Ok (key e (codes "cv")) ∷ Ok (sign e (codes ",")) ∷ []) w.sort d.sort;
@@ -109,7 +120,7 @@ same_function all read rest trees n m name e f = cc
 
 -- a function before others
 function_stands : (n b m : ℕ) (name : List ℕ) (all : List StmtTree) (vs ts : List Token) (rest : List ItemTree) → head_is (is_key (codes "dXSARGS")) vs ≡ true → Body 1 all vs ts → Items rest ts
-    → Items (XsFunction (record { line = m; name = name; body = stmts_of all }) ∷ rest) (key n (codes "XS") ∷ sign n (codes "(") ∷ called n name ∷ sign n (codes ")") ∷ sign b (codes "{") ∷ vs)
+    → Items (XsFunction (record { line = m; name = name; body = stmts_of all }) ∷ rest) (named_tokens n b name vs)
 function_stands n b m name all vs ts rest begins body more = record {
   trees = XsFunction (record { line = n; name = name; body = body.body }) ∷ more.trees;
   stands = g.function refl refl refl refl refl begins body.parts more.stands;
@@ -132,9 +143,11 @@ body_stands c d e x vs ts brace is h =
 
 -- ---- the function of an XSUB
 
-all_spelled : (params : List Param) (ts : List Term) → All (λ p. is_free p.name ≡ true) params → All (IsTermOf (length params)) ts → All (IsSpelled params) ts
-all_spelled params [] free h = tt
-all_spelled params (t ∷ ts) free h = (term_word params free t h.0, all_spelled params ts free h.1)
+-- each of its terms is one word
+all_spelled : (x : Xsub) → IsSumXsub x → All (IsSpelled x.params) x.sum
+all_spelled x f =
+    recursion_from_All (IsSpelled x.params) x.sum
+    (All-weaker (IsTermOf (length x.params)) (IsSpelled x.params) (term_word x.params f.free_params) x.sum (All-from_recursion (IsTermOf (length x.params)) x.sum f.terms))
 
 -- what its block holds, before the returned value
 inner_stands : (x : Xsub) → IsSumXsub x
@@ -142,7 +155,7 @@ inner_stands : (x : Xsub) → IsSumXsub x
 inner_stands x f =
     then_trees (declarations_stand x.line x.params f.free_params)
     (then_trees (results_stand x.line) (then_trees (inputs_stand 0 x.params f.free_params (omega (arith, f.few_params)))
-    (sum_stands x.code_line x.params x.indent x.sum f.first_term f.more_terms f.sum_is (record { bytes = f.blanks }) (all_spelled x.params x.sum f.free_params f.terms) f.few_terms)))
+    (sum_stands x.code_line x.params x.indent x.sum f.first_term f.more_terms f.sum_is (record { bytes = f.blanks }) (all_spelled x f) f.few_terms)))
 
 six_regrouped : {A : Type 0} (a b c d e f : List A) → (a ++ (b ++ (c ++ d))) ++ (e ++ f) ≡ a ++ b ++ c ++ d ++ e ++ f
 six_regrouped a b c d e f =
@@ -176,14 +189,11 @@ xsubs_stand xs f = each_tree IsSumXsub xsub_pieces xsub_tree (λ x h. record { a
 
 boot_cut : (n : ℕ) (name : List ℕ) → IsName name
     → Cut (Plain (codes "\nXS(boot_") ∷ Name name ∷ Plain (codes ")\n{\n    dXSARGS;\n") ∷ []) (fresh n) (fresh (later n 4))
-    (key (n + 1) (codes "XS") ∷ sign (n + 1) (codes "(") ∷ called (n + 1) (codes "boot_" ++ name) ∷ sign (n + 1) (codes ")") ∷ sign (later n 2) (codes "{")
-    ∷ key (later n 3) (codes "dXSARGS") ∷ sign (later n 3) (codes ";") ∷ [])
+    (opening_tokens (n + 1) (later n 2) (later n 3) (codes "boot_" ++ name) [])
 unfolding begin sort_word
 boot_cut n name is = record {
   fine = (is, tt);
-  lexemes =
-      Word (n + 1) (codes "XS") ∷ Sign (n + 1) (codes "(") ∷ Word (n + 1) (codes "boot_" ++ name) ∷ Sign (n + 1) (codes ")") ∷ Sign (later n 2) (codes "{")
-      ∷ Word (later n 3) (codes "dXSARGS") ∷ Sign (later n 3) (codes ";") ∷ [];
+  lexemes = opening_lexemes (n + 1) (later n 2) (later n 3) (codes "boot_" ++ name) [];
   runs = refl;
   told = refl;
 }
@@ -195,9 +205,7 @@ boot_end_cut n = record { fine = tt; lexemes = Word n (codes "XSRETURN_YES") ∷
 boot_with : (n : ℕ) (m : Module) → IsSumModule m → StandAt (flat_map registration_pieces m.xsubs) (map (registration m.boot_line) m.xsubs) (later n 4) → FunctionsAt (boot_pieces m) (boot_tree m ∷ []) n
 boot_with n m f work = record {
   to = later work.to 2;
-  tokens =
-      key (n + 1) (codes "XS") ∷ sign (n + 1) (codes "(") ∷ called (n + 1) (codes "boot_" ++ underscored m.boot) ∷ sign (n + 1) (codes ")") ∷ sign (later n 2) (codes "{")
-      ∷ key (later n 3) (codes "dXSARGS") ∷ sign (later n 3) (codes ";") ∷ (work.tokens ++ end);
+  tokens = opening_tokens (n + 1) (later n 2) (later n 3) (codes "boot_" ++ underscored m.boot) (work.tokens ++ end);
   cut = joined (boot_cut n (underscored m.boot) (boot_is_name m.boot f.boot)) (joined work.cut (boot_end_cut work.to));
   onto = λ k rest ts more.
       function_stands (n + 1) (later n 2) m.boot_line (codes "boot_" ++ underscored m.boot) _ _ ts rest refl

@@ -1,7 +1,7 @@
 -- The glue text in pieces, for each module.
 use Rattle.std.proofs.Common.{◌≡◌, ℕ, ◌+◌, List, [], ◌∷◌, ◌++◌, codes, length, refl, sym, ap, append_assoc, append-nil, ◌∙◌}
 use Rattle.std.specs.Fmt.{decimal}
-use Rattle.std.specs.List.{flat_map}
+use Rattle.std.specs.List.{flat_map, join_by}
 use Rattle.xs_ctok.specs.Pieces as piece
 use Rattle.xs_ctok.specs.Pieces.{Piece, Plain, Name, Bare, Blank, spelled}
 use Rattle.xs_base.specs.declared.place.Line.{Line}
@@ -10,7 +10,7 @@ use Rattle.xs_iface.specs.declared.xsub.Param.{Param}
 use Rattle.xs_iface.specs.declared.xsub.Term.{Term}
 use Rattle.xs_iface.specs.declared.xsub.Xsub.{Xsub}
 use Rattle.xs_iface.specs.Iface.{underscored}
-use Rattle.xs_stub.specs.Stub.{c_line_text, declaration_text, input_text, inputs_text, joined_by, more_joined, name_of, term_text, head_text, work_text, end_text, xsub_text, registration_text, boot_text, glue_text}
+use Rattle.xs_stub.specs.Stub.{c_line_text, declaration_text, input_text, inputs_text, name_of, placed, term_text, head_text, work_text, end_text, xsub_text, registration_text, boot_text, glue_text}
 
 -- The pieces spell the text, whatever stands behind it.
 record Spells (text : List ℕ) (ps : List Piece) : Type 0 where
@@ -50,21 +50,17 @@ whole {t = t} {ps = ps} s = sym (append-nil t) ∙ s.onto [] ∙ ap spelled (app
 
 -- ---- names with a separator between them
 
-abbrev pub more_pieces : {X : Type 0} → List ℕ → (X → List ℕ) → List X → List Piece
-more_pieces separator text [] = []
-more_pieces separator text (x ∷ xs) = Plain separator ∷ Name (text x) ∷ more_pieces separator text xs
+abbrev pub behind_separator : {X : Type 0} → List ℕ → (X → List ℕ) → X → List Piece
+behind_separator separator text x = Plain separator ∷ Name (text x) ∷ []
 
 abbrev pub joined_pieces : {X : Type 0} → List ℕ → (X → List ℕ) → List X → List Piece
 joined_pieces separator text [] = []
-joined_pieces separator text (x ∷ xs) = Name (text x) ∷ more_pieces separator text xs
+joined_pieces separator text (x ∷ xs) = Name (text x) ∷ flat_map (behind_separator separator text) xs
 
-more_spelled : {X : Type 0} (separator : List ℕ) (text : X → List ℕ) (xs : List X) → Spells (more_joined separator text xs) (more_pieces separator text xs)
-more_spelled separator text [] = nothing
-more_spelled separator text (x ∷ xs) = joined (plain separator) (joined (name (text x)) (more_spelled separator text xs))
-
-joined_spelled : {X : Type 0} (separator : List ℕ) (text : X → List ℕ) (xs : List X) → Spells (joined_by separator text xs) (joined_pieces separator text xs)
+joined_spelled : {X : Type 0} (separator : List ℕ) (text : X → List ℕ) (xs : List X) → Spells (join_by text separator xs) (joined_pieces separator text xs)
 joined_spelled separator text [] = nothing
-joined_spelled separator text (x ∷ xs) = joined (name (text x)) (more_spelled separator text xs)
+joined_spelled separator text (x ∷ xs) =
+    joined (name (text x)) (all_joined (λ y. separator ++ text y) (behind_separator separator text) (λ y. joined (plain separator) (name (text y))) xs)
 
 abbrev pub names_pieces : List Param → List Piece
 names_pieces params = joined_pieces (codes ", ") name_of params
@@ -86,8 +82,7 @@ unfolding input_text
 input_spelled place p = joined (plain (codes "        ")) (joined (name p.name) (joined (plain (codes " = (int)SvIV(ST(")) (joined (name (decimal place)) (joined (plain (codes "));\n")) nothing))))
 
 abbrev pub inputs_pieces : ℕ → List Param → List Piece
-inputs_pieces place [] = []
-inputs_pieces place (p ∷ ps) = input_pieces place p ++ inputs_pieces (place + 1) ps
+inputs_pieces = placed input_pieces
 
 inputs_spelled : (place : ℕ) (ps : List Param) → Spells (inputs_text place ps) (inputs_pieces place ps)
 inputs_spelled place [] = nothing

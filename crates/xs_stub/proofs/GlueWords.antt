@@ -1,7 +1,6 @@
 -- The words that the glue of a module is made of.
-use Rattle.std.proofs.Common.{◌≡◌, ℕ, zero, suc, ◌≤◌, ◌<◌, ◌^◌, ◌||◌, Bool, true, false, not, List, [], ◌∷◌, ◌++◌, codes, length, Some, refl, sym, ap, ◌∙◌, subst, arith}
-use Rattle.std.proofs.lemmas.Bool.{and_from, and_parts, eqb-true, not-true, or_from}
-use Rattle.std.proofs.lemmas.Bool.Decides.{nat_tests}
+use Rattle.std.proofs.Common.{◌≡◌, ℕ, zero, suc, ◌≤◌, ◌<◌, ◌^◌, ◌||◌, true, false, not, List, [], ◌∷◌, ◌++◌, codes, length, Some, refl, sym, subst, arith}
+use Rattle.std.proofs.lemmas.Bool.{and_from, and_parts, both_ways, false_from_ne_true, not-true, or_from, or_parts}
 use Rattle.std.specs.Fmt.{decimal}
 use Rattle.std.specs.List.{list_all}
 use Rattle.std.specs.Prelude.{◌==◌, if◌then◌else◌, slice_get}
@@ -14,16 +13,19 @@ use Rattle.xs_base.specs.declared.runs.ByteClass.TheVariants.{Name}
 use Rattle.xs_ctok.specs.declared.token.Sort.{Sort}
 use Rattle.xs_ctok.specs.declared.token.Sort.TheVariants as sort
 use Rattle.xs_ctok.specs.Pieces.{IsName, IsBare, is_bare_byte}
-use Rattle.xs_ctok.specs.Words.{no_names, interface_words, is_key_word, result_words, sort_word}
+use Rattle.xs_ctok.specs.Words.{is_key_word, sort_word}
 use Rattle.xs_base.specs.Readers.{head_is}
-use Rattle.xs_ctok.proofs.Values.{is_among-fewer, is_name_decimal, sort_word_decimal, sort_word_name}
+use Rattle.xs_base.proofs.WordBytes.{digit_not_word}
+use Rattle.xs_ctok.proofs.Running.{bare_if}
+use Rattle.xs_ctok.proofs.Values.{is_name_decimal, sort_word_decimal, sort_word_name}
 use Rattle.xs_iface.specs.declared.xsub.Term.{Term}
 use Rattle.xs_iface.specs.declared.xsub.Term.TheVariants.{Literal, Parameter}
 use Rattle.xs_iface.specs.declared.xsub.Param.{Param}
 use Rattle.xs_iface.specs.declared.xsub.Xsub.{Xsub}
 use Rattle.xs_iface.specs.Iface.{underscored}
 use Rattle.xs_iface.specs.Words.{is_free, is_reserved, reserved_words}
-use Rattle.xs_iface.specs.SumForm.{All, IsSumXsub, IsTermOf}
+use Rattle.std.specs.List.{AllByRecursion as All}
+use Rattle.xs_iface.specs.SumForm.{IsSumXsub, IsTermOf}
 use Rattle.xs_iface.proofs.NameBytes.{underscored_bytes}
 use Rattle.xs_stub.specs.Stub.{name_or_nothing, term_text}
 
@@ -35,19 +37,14 @@ pub record IsWordOf (s : Sort) (name : List ℕ) : Type 0 where
   pub sort : sort_word name ≡ Some s
 
 no_key_word : (word : List ℕ) → is_reserved word ≡ false → is_key_word word ≡ false
-unfolding reserved_words
-no_key_word word h =
-    or_from (is_among no_names word) (is_among interface_words word || is_among result_words word)
-    (is_among-fewer reserved_words no_names word refl h)
-    (or_from (is_among interface_words word) (is_among result_words word)
-    (is_among-fewer reserved_words interface_words word refl h) (is_among-fewer reserved_words result_words word refl h))
+no_key_word word h = (or_parts (is_key_word word) (is_among reserved_words word) h).0
 
 record IsWord (name : List ℕ) : Type 0 where
   is_name : IsName name
   no_digit : head_is is_digit name ≡ false
 
 no_digit_first : (b : ℕ) → begins_word b ≡ true → is_digit b ≡ false
-no_digit_first b h = grind (arith, nat_tests)
+no_digit_first b h = false_from_ne_true (is_digit b) (λ digit. both_ways (begins_word b) (digit_not_word b digit) h)
 
 identifier_is_word : (name : List ℕ) → is_identifier name ≡ true → IsWord name
 identifier_is_word [] h = absurd cc
@@ -69,21 +66,10 @@ boot_is_name [] h = absurd cc
 boot_is_name (b ∷ bs) h =
     record { head = if b == 58 then 95 else b; tail = underscored bs; is = refl; bytes = underscored_bytes (b ∷ bs) (qualified_bytes (b ∷ bs) h) }
 
--- a byte of a package name is none of these
-not_this : (c : ℕ) → belongs Name c ≡ false → (b : ℕ) → belongs Name b ≡ true → (b == c) ≡ false
-not_this c other b h = by (b == c) refl
-  where
-    by : (t : Bool) → (b == c) ≡ t → (b == c) ≡ false
-    by true e = absurd (let e2 : true ≡ false = sym h ∙ ap (belongs Name) (eqb-true b c e) ∙ other in cc)
-    by false e = e
-
-name_byte_is_bare : (b : ℕ) → belongs Name b ≡ true → is_bare_byte b ≡ true
-name_byte_is_bare b h = ap not (or_from (b == 10) (b == 34 || b == 92) (not_this 10 refl b h) (or_from (b == 34) (b == 92) (not_this 34 refl b h) (not_this 92 refl b h)))
-
 -- ---- the words of an XSUB
 
 pub full_is_bare : (x : Xsub) → IsSumXsub x → IsBare x.full
-full_is_bare x f = record { bytes = all-weaker (belongs Name) is_bare_byte name_byte_is_bare x.full f.full_bytes }
+full_is_bare x f = record { bytes = all-weaker (belongs Name) is_bare_byte (bare_if (belongs Name) refl refl refl) x.full f.full_bytes }
 
 glue_word : (tail : List ℕ) → list_all is_word_byte tail ≡ true → IsWordOf sort.Name (codes "XS_" ++ tail)
 unfolding sort_word
@@ -92,10 +78,6 @@ glue_word tail h = record { is_name = record { head = 88; tail = 83 ∷ 95 ∷ t
 -- The name of the glue function is a name.
 pub glue_is_word : (x : Xsub) → IsSumXsub x → IsWordOf sort.Name x.glue
 glue_is_word x f = subst (IsWordOf sort.Name) (sym f.glue) (glue_word f.tail f.tail_bytes)
-
-pub boot_sort : (name : List ℕ) → sort_word (codes "boot_" ++ name) ≡ Some sort.Name
-unfolding sort_word
-boot_sort name = refl
 
 -- ---- parameters and terms
 

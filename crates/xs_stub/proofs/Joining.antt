@@ -1,6 +1,6 @@
 -- Texts one behind the other, each told by an equation.
-use Rattle.std.proofs.Common.{◌≡◌, ℕ, List, [], ◌∷◌, refl, ap, ◌∙◌}
-use Rattle.xs_stub.specs.Stub.{together}
+use Rattle.std.proofs.Common.{◌≡◌, ℕ, List, [], ◌∷◌, refl, ap, ap₂, ◌∙◌}
+use Rattle.std.specs.List.{concat}
 
 abbrev no_texts : List (List ℕ)
 no_texts = []
@@ -10,7 +10,7 @@ no_more = refl
 
 infixr 5 ◌then◌
 pub ◌then◌ : {t u : List ℕ} {ts us : List (List ℕ)} → t ≡ u → ts ≡ us → t ∷ ts ≡ u ∷ us
-e then f = cc
+e then f = ap₂ ◌∷◌ e f
 
-pub all_told : {t : List ℕ} {ts us : List (List ℕ)} → ts ≡ us → t ≡ together ts → t ≡ together us
-all_told same told = told ∙ ap together same
+pub all_told : {t : List ℕ} {ts us : List (List ℕ)} → ts ≡ us → t ≡ concat ts → t ≡ concat us
+all_told same told = told ∙ ap concat same

@@ -1,5 +1,5 @@
 -- The written text, read, is the intended tree but for lines.
-use Rattle.std.proofs.Common.{◌≡◌, ℕ, ◌+◌, List, [], ◌∷◌, ◌++◌, codes, map, append-nil, refl, ap, ◌∙◌}
+use Rattle.std.proofs.Common.{◌≡◌, ℕ, ◌+◌, List, [], ◌∷◌, ◌++◌, codes, map, append-nil, refl, ap, ◌∙◌, subst₂}
 use Rattle.std.specs.List.{flat_map}
 use Rattle.std.specs.Prelude.{Ok, true}
 use Rattle.xs_base.specs.declared.place.FileOf.TheVariants as file
@@ -7,39 +7,38 @@ use Rattle.xs_base.specs.declared.place.Line.{Line}
 use Rattle.xs_ctok.specs.declared.token.Token.{Token}
 use Rattle.xs_ctok.specs.Lexemes.{Moved, begin, is_passed_line, over, run, start}
 use Rattle.xs_ctok.specs.Pieces.{Piece, Plain, spelled}
-use Rattle.xs_ctok.specs.Tokens.{all_of, before, token_of, tokens_of}
+use Rattle.xs_base.proofs.Collecting.{collect_each}
+use Rattle.xs_base.specs.Reading.{collect}
+use Rattle.xs_ctok.specs.Tokens.{token_of, tokens_of}
 use Rattle.xs_csyn.specs.Tree.{ItemTree}
 use Rattle.xs_csyn.proofs.CompleteFiles.{file_complete}
 use Rattle.xs_ctok.proofs.Running.{run_spelled}
 use Rattle.xs_values.specs.declared.model.DataModel.TheVariants as model
 use Rattle.xs_iface.specs.declared.xsub.Module.{Module}
-use Rattle.xs_iface.specs.SumForm.{All, IsSumModule}
+use Rattle.std.specs.List.{AllByRecursion as All}
+use Rattle.xs_iface.specs.SumForm.{IsSumModule}
 use Rattle.xs_stub.specs.Intended.{ReadsBack, boot_tree, glue_tree, xsub_tree}
 use Rattle.xs_stub.specs.Stub.{glue_text}
 use Rattle.xs_stub.proofs.Cuts.{Cut, fresh, joined}
 use Rattle.xs_stub.proofs.GlueFunctions.{boot_stands, xsubs_stand}
 use Rattle.xs_stub.proofs.GluePieces.{boot_pieces, c_line_pieces, glue_pieces, text_in_pieces, xsub_pieces}
-use Rattle.xs_stub.proofs.Standing.{Functions, FunctionsAt, Items, no_items, no_trees, regrouped_items, then_trees}
+use Rattle.xs_stub.proofs.Standing.{Functions, FunctionsAt, Items, no_items, no_trees, then_trees}
 
 -- ---- the whole text
-
-all_told : (ts : List Token) → all_of (map Ok ts) ≡ Ok ts
-all_told [] = refl
-all_told (t ∷ ts) = ap (before (Ok t)) (all_told ts)
 
 -- a text that the machine goes over is cut into these tokens
 told : (bytes : List ℕ) (ps : List Piece) (k : ℕ) (ts : List Token) → bytes ≡ spelled ps → Cut ps start (fresh k) ts → tokens_of file.Text bytes ≡ Ok ts
 unfolding tokens_of
 told bytes ps k ts spells c =
-    ap (λ (m : Moved). all_of (map (token_of file.Text) (over m))) (ap (run start) spells ∙ run_spelled start ps c.fine ∙ c.runs)
-    ∙ ap (λ ls. all_of (map (token_of file.Text) ls)) (append-nil c.lexemes) ∙ ap all_of c.told ∙ all_told ts
+    ap (λ (m : Moved). collect (token_of file.Text) (over m)) (ap (run start) spells ∙ run_spelled start ps c.fine ∙ c.runs)
+    ∙ ap (collect (token_of file.Text)) (append-nil c.lexemes) ∙ collect_each (token_of file.Text) c.lexemes ts c.told
 
 comment_cut : Cut (Plain (codes "/* xsubpp glue, data model LP64 */\n") ∷ []) start (fresh 2) []
 unfolding begin
 comment_cut = record { fine = tt; lexemes = []; runs = refl; told = refl }
 
 all_items : {all : List ItemTree} {ts : List Token} → Items (all ++ []) (ts ++ []) → Items all ts
-all_items {all = all} {ts = ts} i = regrouped_items (append-nil all) (append-nil ts) i
+all_items {all = all} {ts = ts} i = subst₂ Items (append-nil all) (append-nil ts) i
 
 of_items : (m : Module) (k : ℕ) (ts : List Token) → Cut (glue_pieces m) start (fresh k) ts → Items (map xsub_tree m.xsubs ++ boot_tree m ∷ []) ts → ReadsBack m
 unfolding glue_tree

@@ -1,5 +1,6 @@
 -- What stands in a list of tokens by the grammar, and is a tree but for lines.
-use Rattle.std.proofs.Common.{◌≡◌, ℕ, ◌≤◌, max, List, [], ◌∷◌, ◌++◌, codes, map, append_assoc, refl, sym, subst, arith}
+use Rattle.std.proofs.Common.{◌≡◌, ℕ, ◌≤◌, List, [], ◌∷◌, ◌++◌, codes, map, append_assoc, refl, sym, ap₂, subst, subst₂, arith}
+use Rattle.std.proofs.Math.Nat.{max-le}
 use Rattle.std.specs.List.{flat_map}
 use Rattle.xs_ctok.specs.declared.token.Token.{Token}
 use Rattle.xs_csyn.specs.Grammar as g
@@ -7,7 +8,7 @@ use Rattle.xs_csyn.specs.Grammar.{Declaration, File, Is, Parts, Statement}
 use Rattle.xs_csyn.specs.Heights.{AreWithin, depth, depths, tallest, tallest_of}
 use Rattle.xs_ctok.specs.Pieces.{Piece}
 use Rattle.xs_csyn.specs.Tree.{ItemTree, MoreStmts, NoStmts, StmtTree, StmtTrees, stmts_of, unlined_item, unlined_stmt, unlined_stmts}
-use Rattle.xs_iface.specs.SumForm.{All}
+use Rattle.std.specs.List.{AllByRecursion as All}
 use Rattle.xs_stub.proofs.Cuts.{Cut, fresh, joined, nothing_cut}
 
 -- ---- statements
@@ -19,12 +20,6 @@ pub record Body (deep : ℕ) (all : List StmtTree) (ts us : List Token) : Type 0
   pub same : unlined_stmts body ≡ unlined_stmts (stmts_of all)
   pub flat : depths body ≤ deep
   pub low : tallest_of body ≤ 64
-
-two_stmts : {a b : StmtTree} {c d : StmtTrees} → a ≡ b → c ≡ d → MoreStmts a c ≡ MoreStmts b d
-two_stmts e f = cc
-
-greatest : (a b c : ℕ) → a ≤ c → b ≤ c → max a b ≤ c
-greatest a b c h k = omega (arith, h, k)
 
 -- The first of the parts that stand there is this one, whatever the others are.
 abbrev IsFirst : StmtTree → List Token → List Token → Type 0
@@ -41,9 +36,9 @@ with_first : {deep : ℕ} {rest : List StmtTree} {ts us vs : List Token} (s mean
 with_first {deep = deep} {vs = vs} s meant first same flat low more = record {
   body = MoreStmts s more.body;
   parts = first more.body vs more.parts;
-  same = two_stmts same more.same;
-  flat = greatest (depth s) (depths more.body) deep flat more.flat;
-  low = greatest (tallest s) (tallest_of more.body) 64 low more.low;
+  same = ap₂ MoreStmts same more.same;
+  flat = max-le flat more.flat;
+  low = max-le low more.low;
 }
 
 pub stated : {deep : ℕ} {rest : List StmtTree} {ts us vs : List Token} (s meant : StmtTree) → Statement s ts us → unlined_stmt s ≡ unlined_stmt meant → depth s ≤ deep → tallest s ≤ 64
@@ -55,7 +50,7 @@ pub declared : {deep : ℕ} {rest : List StmtTree} {ts us vs : List Token} (s me
 declared s meant stands same flat low more = with_first s meant (declaration_first stands) same flat low more
 
 pub regrouped : {deep : ℕ} {all meant : List StmtTree} {ts vs us : List Token} → all ≡ meant → ts ≡ vs → Body deep all ts us → Body deep meant vs us
-regrouped {deep = deep} {all = all} {vs = vs} {us = us} e f b = subst (λ l. Body deep l vs us) e (subst (λ l. Body deep all l us) f b)
+regrouped {deep = deep} {us = us} e f b = subst₂ (λ all ts. Body deep all ts us) e f b
 
 -- ---- pieces that are trees
 
@@ -146,6 +141,3 @@ FunctionsAt ps all n = TreesAt (Unit {0}) ItemTree InFile ps all n
 
 abbrev pub Functions : List Piece → List ItemTree → Type 0
 Functions ps all = AreTrees (Unit {0}) ItemTree InFile ps all
-
-pub regrouped_items : {all meant : List ItemTree} {ts us : List Token} → all ≡ meant → ts ≡ us → Items all ts → Items meant us
-regrouped_items {all = all} {us = us} e f h = subst (λ l. Items l us) e (subst (Items all) f h)

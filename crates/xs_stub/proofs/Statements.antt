@@ -1,5 +1,5 @@
 -- The other statements of a glue function: their text, cut into tokens, and what stands there.
-use Rattle.std.proofs.Common.{◌≡◌, ℕ, ◌+◌, ◌≤◌, List, [], ◌∷◌, ◌++◌, codes, length, map, refl, ap, arith}
+use Rattle.std.proofs.Common.{◌≡◌, ℕ, ◌+◌, ◌≤◌, List, [], ◌∷◌, ◌++◌, codes, length, map, refl, ap, ap₂, arith}
 use Rattle.std.specs.Fmt.{decimal}
 use Rattle.std.specs.List.{flat_map}
 use Rattle.std.specs.Prelude.{Ok, true}
@@ -15,11 +15,12 @@ use Rattle.xs_csyn.specs.Tree.{ExprTree, Var, Num, Set, Cast, StPlace, StmtTree,
 use Rattle.xs_ctok.specs.Words.{sort_word}
 use Rattle.xs_iface.specs.declared.xsub.Param.{Param}
 use Rattle.xs_iface.specs.declared.xsub.Xsub.{Xsub}
-use Rattle.xs_iface.specs.SumForm.{All, IsSumXsub}
+use Rattle.std.specs.List.{AllByRecursion as All}
+use Rattle.xs_iface.specs.SumForm.{IsSumXsub}
 use Rattle.xs_iface.specs.Words.{is_free}
 use Rattle.xs_stub.specs.Intended.{assign, call_of, declared_param, inputs_from, int_argument, int_type, iv_type, registration, return_one, returned_value, sv_pointer}
 use Rattle.xs_stub.specs.Stub.{end_text}
-use Rattle.xs_stub.proofs.Cuts.{Cut, called, fresh, key, later, number, quoted, sign, two_sorts}
+use Rattle.xs_stub.proofs.Cuts.{Cut, called, fresh, key, later, number, quoted, sign}
 use Rattle.xs_stub.proofs.GluePieces.{declaration_pieces, input_pieces, inputs_pieces, registration_pieces}
 use Rattle.xs_stub.proofs.GlueWords.{IsWordOf, decimal_word, free_name, full_is_bare, glue_is_word}
 use Rattle.xs_stub.proofs.Standing.{Body, Stand, declared, each_tree, no_stmt, no_trees, one_declared, one_stated, stated, then_trees}
@@ -86,7 +87,7 @@ input_cut n place p w d = record {
       Word n p.name ∷ Sign n (codes "=") ∷ Sign n (codes "(") ∷ Word n (codes "int") ∷ Sign n (codes ")") ∷ Word n (codes "SvIV") ∷ Sign n (codes "(") ∷ Word n (codes "ST") ∷ Sign n (codes "(")
       ∷ Word n (decimal place) ∷ Sign n (codes ")") ∷ Sign n (codes ")") ∷ Sign n (codes ";") ∷ [];
   runs = refl;
-  told = two_sorts (λ s t.
+  told = ap₂ (λ s t.
       word_token file.Text n p.name s ∷ Ok (sign n (codes "=")) ∷ Ok (sign n (codes "(")) ∷ Ok (key n (codes "int")) ∷ Ok (sign n (codes ")")) ∷ Ok (key n (codes "SvIV")) ∷ Ok (sign n (codes "("))
       ∷ Ok (key n (codes "ST")) ∷ Ok (sign n (codes "(")) ∷ word_token file.Text n (decimal place) t ∷ Ok (sign n (codes ")")) ∷ Ok (sign n (codes ")")) ∷ Ok (sign n (codes ";")) ∷ []) w.sort d.sort;
 }

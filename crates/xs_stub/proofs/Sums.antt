@@ -1,5 +1,5 @@
 -- The sum of an XSUB: its text, cut into tokens, and the expression that stands there.
-use Rattle.std.proofs.Common.{◌≡◌, ℕ, ◌+◌, ◌≤◌, max, List, [], ◌∷◌, ◌++◌, codes, fold, false, length, refl, ap, arith}
+use Rattle.std.proofs.Common.{◌≡◌, ℕ, ◌+◌, ◌≤◌, max, List, [], ◌∷◌, ◌++◌, codes, fold, false, length, refl, ap, ap₂, arith}
 use Rattle.std.specs.Prelude.{Ok}
 use Rattle.xs_base.specs.declared.place.FileOf.TheVariants as file
 use Rattle.xs_ctok.specs.declared.state.Mode.TheVariants as mode
@@ -19,11 +19,11 @@ use Rattle.xs_ctok.specs.Words.{sort_word}
 use Rattle.xs_iface.specs.declared.xsub.Param.{Param}
 use Rattle.xs_iface.specs.declared.xsub.Term.{Term}
 use Rattle.xs_iface.specs.declared.xsub.Term.TheVariants.{Literal, Parameter}
-use Rattle.xs_iface.specs.SumForm.{All}
+use Rattle.std.specs.List.{AllByRecursion as All, flat_map}
 use Rattle.xs_stub.specs.Intended.{assign, sum_of, term_tree}
 use Rattle.xs_stub.specs.Stub.{term_text}
 use Rattle.xs_stub.proofs.Cuts.{Cut, fresh, joined, key, sign}
-use Rattle.xs_stub.proofs.GluePieces.{more_pieces, sum_pieces}
+use Rattle.xs_stub.proofs.GluePieces.{behind_separator, sum_pieces}
 use Rattle.xs_stub.proofs.GlueWords.{IsWordOf, sort_of_term}
 use Rattle.xs_stub.proofs.Standing.{Body, Stand, StandAt, stated}
 
@@ -63,7 +63,7 @@ unfolding begin
 inner_term_cut n params t w = term_cut n params t (codes " + ") (codes "+") (at_line n mode.Between) w refl
 
 terms_cut : (n : ℕ) (params : List Param) (t : Term) (ts : List Term) → IsSpelled params t → All (IsSpelled params) ts
-    → Cut (Name (term_text params t) ∷ (more_pieces (codes " + ") (term_text params) ts ++ Plain (codes ";\n") ∷ [])) (at_line n mode.Between) (fresh (n + 1)) (term_token n params t ∷ more_tokens n params ts)
+    → Cut (Name (term_text params t) ∷ (flat_map (behind_separator (codes " + ") (term_text params)) ts ++ Plain (codes ";\n") ∷ [])) (at_line n mode.Between) (fresh (n + 1)) (term_token n params t ∷ more_tokens n params ts)
 terms_cut n params t [] w ws = last_term_cut n params t w
 terms_cut n params t (u ∷ us) w ws = joined (inner_term_cut n params t w) (terms_cut n params u us ws.0 ws.1)
 
@@ -101,9 +101,6 @@ term_height : (n : ℕ) (params : List Param) (t : Term) → height (term_tree p
 term_height n params (Parameter at) = refl
 term_height n params (Literal value) = refl
 
-two_same : {a b c d : ExprTree} → a ≡ b → c ≡ d → Two 0 op.Add a c ≡ Two 0 op.Add b d
-two_same e f = cc
-
 taller : (a b h : ℕ) → a ≤ h → b ≡ 1 → 1 ≤ h → max a b + 1 ≤ h + 1
 taller a b h le is some = omega (arith, le, is, some)
 
@@ -115,7 +112,7 @@ grown n m params (u ∷ us) e tall ts rest some s =
     raised (omega arith) (grown n m params us (Two m op.Add e (term_tree params m u)) (tall + 1) ts rest (omega arith) (record {
       tree = Two (line_of s.tree) op.Add s.tree (term_tree params n u);
       stands = g.add s.stands refl (term_stands n params u (more_tokens n params us ++ rest));
-      same = two_same s.same (term_same n m params u);
+      same = ap₂ (Two 0 op.Add) s.same (term_same n m params u);
       low = taller (height s.tree) (height (term_tree params n u)) tall s.low (term_height n params u) some;
     }))
 

@@ -1,7 +1,8 @@
 -- The tree that the glue of a module is meant to be, with the lines of the XS file. Each node of a statement has the line of that
 -- statement: what belongs to the boot function has the line of MODULE, an input that of its parameter, the author's code its own,
 -- what makes the returned value of RETVAL the line that names RETVAL in OUTPUT, and all else the line of the interface.
-use Rattle.std.specs.Prelude.{◌≡◌, ℕ, ◌+◌, List, [], ◌∷◌, ◌++◌, map, fold, length, codes, slice_get, Ok}
+use Rattle.std.specs.Prelude.{◌≡◌, ℕ, List, [], ◌∷◌, ◌++◌, map, fold, length, codes, slice_get, Ok}
+use Rattle.std.specs.List.{enumerate_from}
 use Rattle.xs_base.specs.declared.place.FileOf.TheVariants as file
 use Rattle.xs_csyn.specs.declared.tree.BinaryOp.TheVariants as op
 use Rattle.xs_csyn.specs.declared.tree.CType.{CType}
@@ -48,10 +49,13 @@ usage_test line params =
 abbrev pub declared_param : ℕ → Param → StmtTree
 declared_param line p = Declare line int_type p.name
 
--- Each parameter's variable gets its argument, in the order of the list.
+-- The parameter's variable gets the argument at a place.
+abbrev pub input : ℕ → Param → StmtTree
+input place p = assign p.line p.name (int_argument p.line place)
+
+-- So it is for each parameter, in the order of the list.
 abbrev pub inputs_from : ℕ → List Param → List StmtTree
-inputs_from place [] = []
-inputs_from place (p ∷ ps) = assign p.line p.name (int_argument p.line place) ∷ inputs_from (place + 1) ps
+inputs_from place ps = map (λ q. input q.0 q.1) (enumerate_from place ps)
 
 abbrev pub term_tree : List Param → ℕ → Term → ExprTree
 term_tree params line (Parameter at) = Var line (name_or_nothing (slice_get params at))

@@ -1,8 +1,8 @@
 -- The glue text of a module: the C by which Perl calls its XSUBs. The layout is this project's own; the calls are those of perlxs
 -- and perlapi.
 use Rattle.std.specs.Fmt.{decimal}
-use Rattle.std.specs.List.{flat_map}
-use Rattle.std.specs.Prelude.{ℕ, ◌+◌, List, [], ◌∷◌, ◌++◌, length, codes, Option, None, Some, slice_get}
+use Rattle.std.specs.List.{concat, enumerate_from, flat_map, join_by}
+use Rattle.std.specs.Prelude.{ℕ, List, [], ◌∷◌, ◌++◌, length, codes, Option, None, Some, slice_get}
 use Rattle.xs_base.specs.declared.place.Line.{Line}
 use Rattle.xs_iface.specs.declared.xsub.Module.{Module}
 use Rattle.xs_iface.specs.declared.xsub.Param.{Param}
@@ -11,39 +11,27 @@ use Rattle.xs_iface.specs.declared.xsub.Term.TheVariants.{Literal, Parameter}
 use Rattle.xs_iface.specs.declared.xsub.Xsub.{Xsub}
 use Rattle.xs_iface.specs.Iface.{underscored}
 
--- texts one behind the other
-abbrev pub together : List (List ℕ) → List ℕ
-together [] = []
-together (t ∷ ts) = t ++ together ts
-
--- the texts of a list's elements, each behind a separator
-abbrev pub more_joined : {X : Type 0} → List ℕ → (X → List ℕ) → List X → List ℕ
-more_joined separator text [] = []
-more_joined separator text (x ∷ xs) = separator ++ (text x ++ more_joined separator text xs)
-
--- the texts of a list's elements, with a separator between them
-abbrev pub joined_by : {X : Type 0} → List ℕ → (X → List ℕ) → List X → List ℕ
-joined_by separator text [] = []
-joined_by separator text (x ∷ xs) = text x ++ more_joined separator text xs
+-- what the elements of a list are made into, each with its place, one behind the other
+abbrev pub placed : {X A : Type 0} → (ℕ → X → List A) → ℕ → List X → List A
+placed made place xs = flat_map (λ q. made q.0 q.1) (enumerate_from place xs)
 
 -- the names of parameters, with a comma and a space between them
 abbrev pub name_of : Param → List ℕ
 name_of p = p.name
 
 abbrev pub joined_names : List Param → List ℕ
-joined_names params = joined_by (codes ", ") name_of params
+joined_names params = join_by name_of (codes ", ") params
 
 -- a variable for a parameter
 unfoldable pub declaration_text : Param → List ℕ
-declaration_text p = together (codes "        int " ∷ p.name ∷ codes ";\n" ∷ [])
+declaration_text p = concat (codes "        int " ∷ p.name ∷ codes ";\n" ∷ [])
 
 -- the variable gets the argument at a place
 unfoldable pub input_text : ℕ → Param → List ℕ
-input_text place p = together (codes "        " ∷ p.name ∷ codes " = (int)SvIV(ST(" ∷ decimal place ∷ codes "));\n" ∷ [])
+input_text place p = concat (codes "        " ∷ p.name ∷ codes " = (int)SvIV(ST(" ∷ decimal place ∷ codes "));\n" ∷ [])
 
 abbrev pub inputs_text : ℕ → List Param → List ℕ
-inputs_text place [] = []
-inputs_text place (p ∷ ps) = input_text place p ++ inputs_text (place + 1) ps
+inputs_text = placed input_text
 
 abbrev pub name_or_nothing : Option Param → List ℕ
 name_or_nothing None = []
@@ -55,18 +43,18 @@ term_text params (Literal value) = decimal value
 
 -- the terms of a sum, with a plus between them
 abbrev pub sum_text : List Param → List Term → List ℕ
-sum_text params terms = joined_by (codes " + ") (term_text params) terms
+sum_text params terms = join_by (term_text params) (codes " + ") terms
 
 -- The head of a glue function, with the test of the number of arguments and its croak.
 unfoldable pub head_text : Xsub → List ℕ
 head_text x =
-    together (codes "\nXS(" ∷ x.glue ∷ codes ")\n{\n    dXSARGS;\n    if (items != " ∷ decimal (length x.params) ∷ codes ")\n        croak_xs_usage(cv, \"" ∷ joined_names x.params
+    concat (codes "\nXS(" ∷ x.glue ∷ codes ")\n{\n    dXSARGS;\n    if (items != " ∷ decimal (length x.params) ∷ codes ")\n        croak_xs_usage(cv, \"" ∷ joined_names x.params
     ∷ codes "\");\n    {\n" ∷ [])
 
 -- The variables, the inputs in the order of the list, and the line of the author's code as it stands.
 unfoldable pub work_text : Xsub → List ℕ
 work_text x =
-    together (flat_map declaration_text x.params ∷ codes "        int RETVAL;\n        SV *RETVALSV;\n" ∷ inputs_text 0 x.params ∷ x.indent ∷ codes "RETVAL = "
+    concat (flat_map declaration_text x.params ∷ codes "        int RETVAL;\n        SV *RETVALSV;\n" ∷ inputs_text 0 x.params ∷ x.indent ∷ codes "RETVAL = "
     ∷ sum_text x.params x.sum ∷ codes ";\n" ∷ [])
 
 -- RETVAL becomes a new temporary, which is the one item that is returned.
@@ -75,15 +63,15 @@ end_text = codes "        RETVALSV = sv_newmortal();\n        sv_setiv(RETVALSV,
 
 -- the glue function of an XSUB
 unfoldable pub xsub_text : Xsub → List ℕ
-xsub_text x = together (head_text x ∷ work_text x ∷ end_text ∷ [])
+xsub_text x = concat (head_text x ∷ work_text x ∷ end_text ∷ [])
 
 unfoldable pub registration_text : Xsub → List ℕ
-registration_text x = together (codes "    newXS_deffile(\"" ∷ x.full ∷ codes "\", " ∷ x.glue ∷ codes ");\n" ∷ [])
+registration_text x = concat (codes "    newXS_deffile(\"" ∷ x.full ∷ codes "\", " ∷ x.glue ∷ codes ");\n" ∷ [])
 
 -- The boot function registers each glue function under its full name.
 unfoldable pub boot_text : Module → List ℕ
 boot_text m =
-    together (codes "\nXS(boot_" ∷ underscored m.boot ∷ codes ")\n{\n    dXSARGS;\n" ∷ flat_map registration_text m.xsubs ∷ codes "    XSRETURN_YES;\n}\n" ∷ [])
+    concat (codes "\nXS(boot_" ∷ underscored m.boot ∷ codes ")\n{\n    dXSARGS;\n" ∷ flat_map registration_text m.xsubs ∷ codes "    XSRETURN_YES;\n}\n" ∷ [])
 
 -- a line of the C part as it stands
 abbrev pub c_line_text : Line → List ℕ
@@ -91,4 +79,4 @@ c_line_text line = line.text ++ codes "\n"
 
 -- the whole text
 unfoldable pub glue_text : Module → List ℕ
-glue_text m = together (codes "/* xsubpp glue, data model LP64 */\n" ∷ flat_map c_line_text m.c_part ∷ flat_map xsub_text m.xsubs ∷ boot_text m ∷ [])
+glue_text m = concat (codes "/* xsubpp glue, data model LP64 */\n" ∷ flat_map c_line_text m.c_part ∷ flat_map xsub_text m.xsubs ∷ boot_text m ∷ [])

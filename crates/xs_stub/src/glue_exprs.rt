@@ -7,7 +7,7 @@ ghost use Rattle.xs_csyn.specs.declared.tree.BinaryOp.TheVariants as op;
 ghost use Rattle.xs_stub.specs.Intended as spec;
 ghost use Rattle.xs_stub.specs.Stub.{joined_names};
 
-use crate::writer::write_names;
+use crate::writer::{name_at, write_names};
 use std::alloc::Global;
 use xs_base::{Bytes, Memory};
 use xs_csyn::{BinaryOp, CType, Expr};
@@ -105,10 +105,7 @@ fn term_tree(alloc: Global, params: &[Param], line: u32, term: Term) -> Result<E
     ensures { IfOk result (λ e. plain e ≡ spec.term_tree params.now line term) }
 {
     match term {
-        Term::Parameter(at) => match params.get(at as usize) {
-            Some(param) => variable(alloc, line, param.name.as_slice()),
-            None => variable(alloc, line, b""),
-        },
+        Term::Parameter(at) => variable(alloc, line, name_at(params, at)),
         Term::Literal(value) => Ok(number(line, value as u64)),
     }
 }

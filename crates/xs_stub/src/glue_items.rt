@@ -8,9 +8,9 @@ ghost use Rattle.xs_csyn.specs.declared.tree.PerlForm.TheVariants as form;
 ghost use Rattle.xs_stub.specs.Intended as spec;
 ghost use Rattle.xs_stub.specs.Intended.{glue_tree};
 
-use crate::glue_stmts::{begun, with_more, word, xsub_body};
+use crate::glue_stmts::{begun, word, xsub_body};
 use std::alloc::Global;
-use xs_base::{Bytes, Items, Memory, Refuse};
+use xs_base::{Bytes, Items, Memory, Refuse, with_more};
 use xs_csyn::{CFile, FileItem, PerlForm, Stmt, XsFun};
 use xs_iface::{Module, Xsub, underscored};
 use xs_values::DataModel;

@@ -11,8 +11,8 @@ use crate::glue_exprs::{
     variable,
 };
 use std::alloc::Global;
-use xs_base::{Bytes, Memory};
-use xs_csyn::{BinaryOp, CType, Expr, PerlForm, Place, Stmt};
+use xs_base::{Bytes, Memory, with_more};
+use xs_csyn::{BinaryOp, CType, Expr, PerlForm, Place, Stmt, if_of};
 use xs_iface::{Param, Term, Xsub};
 
 // ---- single statements
@@ -45,13 +45,6 @@ fn block(line: u32, body: Vec<Stmt>) -> Stmt
     ensures { plain_stmt result ≡ t.Block line (t.stmts_of (plain_stmts body)) }
 {
     Stmt::Block(line, body)
-}
-
-#[tactic(auto, using(xs_csyn::proofs::Views::views))]
-fn if_of(alloc: Global, line: u32, test: Expr, then_do: Stmt) -> Result<Stmt, Memory>
-    ensures { IfOk result (λ s. plain_stmt s ≡ t.If line (plain test) (plain_stmt then_do)) }
-{
-    Ok(Stmt::If(line, test, Box::new(alloc, then_do)?))
 }
 
 // The place gets a value.
@@ -93,15 +86,6 @@ fn usage_test(alloc: Global, line: u32, params: &[Param]) -> Result<Stmt, Memory
 }
 
 // ---- statements behind those that are there
-
-/// One statement more.
-pub fn with_more(all: Vec<Stmt>, one: Stmt) -> Result<Vec<Stmt>, Memory>
-    ensures { IfOk result (λ v. plain_stmts v ≡ plain_stmts all ++ plain_stmt one ∷ []) }
-{
-    let mut all = all;
-    all.push(one)?;
-    Ok(all)
-}
 
 // Two statements more.
 #[tactic(auto, using(std::proofs::Common::append_assoc))]

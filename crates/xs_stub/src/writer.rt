@@ -1,8 +1,8 @@
 //! The glue text of a module: the C by which Perl calls its XSUBs.
 ghost use Rattle.std.specs.Fmt.{decimal};
-ghost use Rattle.std.specs.List.{flat_map};
-ghost use Rattle.std.specs.Prelude.{◌≡◌, IfOk, codes, map};
-ghost use Rattle.xs_stub.specs.Stub.{boot_text, c_line_text, declaration_text, end_text, glue_text, head_text, input_text, inputs_text, joined_names, more_joined, name_of, registration_text, sum_text, term_text, together, work_text, xsub_text};
+ghost use Rattle.std.specs.List.{concat, flat_map};
+ghost use Rattle.std.specs.Prelude.{◌≡◌, ◌++◌, IfOk, codes, map, slice_get};
+ghost use Rattle.xs_stub.specs.Stub.{boot_text, c_line_text, declaration_text, end_text, glue_text, head_text, input_text, inputs_text, joined_names, name_of, name_or_nothing, registration_text, sum_text, term_text, work_text, xsub_text};
 
 use std::alloc::Global;
 use xs_base::{Bytes, Line, Memory};
@@ -39,7 +39,7 @@ fn write_c_part(alloc: Global, lines: &[Line]) -> Result<Bytes, Memory>
 /// Texts one behind the other.
 #[tactic(auto, using(std::proofs::Common::append_assoc))]
 pub fn together(alloc: Global, pieces: &[&[u8]]) -> Result<Bytes, Memory>
-    ensures { IfOk result (λ text. text ≡ together (map (λ piece. piece.now) pieces.now)) }
+    ensures { IfOk result (λ text. text ≡ concat (map (λ piece. piece.now) pieces.now)) }
 {
     let mut text = Bytes::new(alloc);
     for piece in pieces {
@@ -52,8 +52,9 @@ pub fn together(alloc: Global, pieces: &[&[u8]]) -> Result<Bytes, Memory>
 pub fn decimal_text(alloc: Global, n: u64) -> Result<Bytes, Memory>
     ensures { IfOk result (λ text. text ≡ decimal n) }
 {
-    let digits = n.to_string(alloc)?;
-    Bytes::from_slice(alloc, digits.as_bytes())
+    let mut text = Bytes::new(alloc);
+    text.append_number(alloc, n)?;
+    Ok(text)
 }
 
 #[tactic(auto, using(std::proofs::Common::append_assoc))]
@@ -145,7 +146,7 @@ pub fn write_names(alloc: Global, params: &[Param]) -> Result<Bytes, Memory>
 
 #[tactic(auto, using(std::proofs::Common::append_assoc))]
 fn write_more_names(alloc: Global, params: &[Param]) -> Result<Bytes, Memory>
-    ensures { IfOk result (λ text. text ≡ more_joined (codes ", ") name_of params.now) }
+    ensures { IfOk result (λ text. text ≡ flat_map (λ param. codes ", " ++ name_of param) params.now) }
 {
     let mut text = Bytes::new(alloc);
     for param in params {
@@ -217,7 +218,7 @@ fn write_sum(alloc: Global, params: &[Param], terms: &[Term]) -> Result<Bytes, M
 
 #[tactic(auto, using(std::proofs::Common::append_assoc))]
 fn write_more_terms(alloc: Global, params: &[Param], terms: &[Term]) -> Result<Bytes, Memory>
-    ensures { IfOk result (λ text. text ≡ more_joined (codes " + ") (term_text params.now) terms.now) }
+    ensures { IfOk result (λ text. text ≡ flat_map (λ term. codes " + " ++ term_text params.now term) terms.now) }
 {
     let mut text = Bytes::new(alloc);
     for term in terms {
@@ -227,14 +228,21 @@ fn write_more_terms(alloc: Global, params: &[Param], terms: &[Term]) -> Result<B
     Ok(text)
 }
 
+/// The name of the parameter at a place, which a term of a module has always.
+pub fn name_at(params: &[Param], at: u32) -> &[u8]
+    ensures { result.now ≡ name_or_nothing (slice_get params.now at) }
+{
+    match params.get(at as usize) {
+        Some(param) => param.name.as_slice(),
+        None => b"",
+    }
+}
+
 fn write_term(alloc: Global, params: &[Param], term: Term) -> Result<Bytes, Memory>
     ensures { IfOk result (λ text. text ≡ term_text params.now term) }
 {
     match term {
-        Term::Parameter(at) => match params.get(at as usize) {
-            Some(param) => param.name.copy(alloc),
-            None => Ok(Bytes::new(alloc)),
-        },
+        Term::Parameter(at) => Bytes::from_slice(alloc, name_at(params, at)),
         Term::Literal(value) => decimal_text(alloc, u64::from(value)),
     }
 }

@@ -1,32 +1,24 @@
 -- Plain values, and their numbers and texts.
-use Rattle.std.specs.Prelude.{ℤ, pos, negsuc, neg_ℤ, ℕ, ◌+◌, ◌-◌, ◌*◌, ◌^◌, Bool, cond, ◌==◌, ◌&&◌, ◌||◌, nat_le, List, [], ◌∷◌, int_lt}
+use Rattle.std.specs.Prelude.{ℤ, pos, negsuc, neg_ℤ, ℕ, ◌-◌, ◌^◌, cond, ◌==◌, List, [], ◌∷◌, int_lt}
 use Rattle.std.specs.Fmt.{decimal, signed_decimal}
-use Rattle.xs_base.specs.Scanning.{is_digit}
+use Rattle.xs_base.specs.Runs.{behind, front_of}
+use Rattle.xs_base.specs.Scanning.{value_of_digits}
+use Rattle.xs_base.specs.declared.runs.ByteClass.TheVariants.{Digit, Space}
 use Rattle.xs_values.specs.declared.plain.Plain.{Plain}
 use Rattle.xs_values.specs.declared.plain.Plain.TheVariants.{Undef, Int, Uns, Text}
 
--- a byte of C's white space
-abbrev pub is_blank : ℕ → Bool
-is_blank b = (nat_le 9 b && nat_le b 13) || (b == 32)
+-- the number that the longest run of digits in front writes; none gives 0
+abbrev pub value_in_front : List ℕ → ℕ
+value_in_front text = value_of_digits (front_of Digit text)
 
--- a text from its first byte that is no blank
-abbrev pub without_blanks : List ℕ → List ℕ
-without_blanks [] = []
-without_blanks (b ∷ bs) = cond (is_blank b) (without_blanks bs) (b ∷ bs)
-
--- the number that digits write behind those read so far, up to the first byte that is no digit
-abbrev pub digits_on : ℕ → List ℕ → ℕ
-digits_on n [] = n
-digits_on n (b ∷ bs) = cond (is_digit b) (digits_on (n * 10 + (b - 48)) bs) n
-
--- one optional sign, and the longest run of digits; none gives 0
+-- one optional sign, and the longest run of digits
 abbrev pub signed_number : List ℕ → ℤ
 signed_number [] = pos 0
-signed_number (b ∷ bs) = cond (b == 45) (neg_ℤ (pos (digits_on 0 bs))) (cond (b == 43) (pos (digits_on 0 bs)) (pos (digits_on 0 (b ∷ bs))))
+signed_number (b ∷ bs) = cond (b == 45) (neg_ℤ (pos (value_in_front bs))) (cond (b == 43) (pos (value_in_front bs)) (pos (value_in_front (b ∷ bs))))
 
--- the whole number that a text begins with
+-- the whole number that a text begins with, behind C's white space
 abbrev pub whole_number : List ℕ → ℤ
-whole_number bytes = signed_number (without_blanks bytes)
+whole_number bytes = signed_number (behind Space bytes)
 
 -- a number brought into a range
 abbrev pub between : ℤ → ℤ → ℤ → ℤ

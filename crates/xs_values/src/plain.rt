@@ -1,10 +1,10 @@
 //! What a scalar holds that is no reference, and its number and text.
 ghost use Rattle.std.specs.Fmt.{signed_decimal};
 ghost use Rattle.std.specs.Prelude.{◌≡◌, ◌-◌, ◌^◌, IfOk, decimal, min, neg_ℤ, negsuc, pos};
-ghost use Rattle.xs_values.specs.Plains.{between, digits_on, into_iv, is_blank, iv_of, number_of_text, text_of, without_blanks};
+ghost use Rattle.xs_values.specs.Plains.{between, into_iv, iv_of, number_of_text, text_of, value_in_front};
 
 use std::alloc::Global;
-use xs_base::{Bytes, Memory, is_digit};
+use xs_base::{ByteClass, Bytes, Memory, cut_run, digits_value};
 
 /// What a scalar holds where it holds no reference.
 #[derive(Debug, Drop)]
@@ -54,8 +54,9 @@ fn signed_text(alloc: Global, i: i64) -> Result<Bytes, Memory>
 fn unsigned_text(alloc: Global, u: u64) -> Result<Bytes, Memory>
     ensures { IfOk result (λ text. text ≡ decimal u) }
 {
-    let text = format!(in alloc; "{u}")?;
-    Bytes::from_slice(alloc, text.as_bytes())
+    let mut text = Bytes::new(alloc);
+    text.append_number(alloc, u)?;
+    Ok(text)
 }
 
 // A number brought into the range of IV.
@@ -75,10 +76,10 @@ fn saturate(z: i128) -> i64
 fn text_number(bytes: &[u8]) -> i128
     ensures { result ≡ number_of_text bytes.now }
 {
-    match behind_blanks(bytes) {
-        [b'-', digits @ ..] => negative(digits_value(digits)),
-        [b'+', digits @ ..] => i128::from(digits_value(digits)),
-        digits => i128::from(digits_value(digits)),
+    match cut_run(ByteClass::Space, bytes).1 {
+        [b'-', digits @ ..] => negative(value_in_front(digits)),
+        [b'+', digits @ ..] => i128::from(value_in_front(digits)),
+        digits => i128::from(value_in_front(digits)),
     }
 }
 
@@ -94,39 +95,9 @@ fn negative(n: u64) -> i128
     }
 }
 
-fn behind_blanks(bytes: &[u8]) -> &[u8]
-    ensures { result.now ≡ without_blanks bytes.now }
+// The number that the longest run of digits in front writes, or the greatest UV where that is less.
+fn value_in_front(text: &[u8]) -> u64
+    ensures { result ≡ min (value_in_front text.now) (2 ^ 64 - 1) }
 {
-    let mut rest = bytes;
-    while let [b, behind @ ..] = rest {
-        if !blank(*b) {
-            return rest;
-        }
-        rest = behind;
-    }
-    rest
-}
-
-#[tactic(auto, using(crate::proofs::Digits::steps))]
-// The number that the longest run of digits writes, or the greatest UV where that is less.
-fn digits_value(bytes: &[u8]) -> u64
-    ensures { result ≡ min (digits_on 0 bytes.now) (2 ^ 64 - 1) }
-{
-    let mut value: u64 = 0;
-    let mut rest = bytes;
-    while let [b, behind @ ..] = rest {
-        if !is_digit(*b) {
-            return value;
-        }
-        value = value.saturating_mul(10).saturating_add(u64::from(*b - 48));
-        rest = behind;
-    }
-    value
-}
-
-// C's white space.
-fn blank(b: u8) -> bool
-    ensures { result ≡ is_blank b }
-{
-    (9 <= b && b <= 13) || b == 32
+    digits_value(cut_run(ByteClass::Digit, text).0).unwrap_or(u64::MAX)
 }

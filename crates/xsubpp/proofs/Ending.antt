@@ -1,12 +1,13 @@
 -- What was written of an answer, told of the answer by the desk's files or by some reads.
-use Rattle.std.proofs.Common.{◌≡◌, ◌≢◌, ℕ, List, [], take, Option, None, Some, ◌⊎◌, inl, inr, refl, sym, ap, subst, ◌∙◌, append-nil, arith, zero, suc}
+use Rattle.std.proofs.Common.{◌≡◌, ◌≢◌, ℕ, List, [], Option, None, Some, ◌⊎◌, inl, inr, refl, sym, ap, subst, ◌∙◌, append-nil, arith}
+use Rattle.std.proofs.Math.Seq.{take-nil}
 use Rattle.xs_base.specs.Causes.{Rose}
 use Rattle.xs_base.specs.Desks.{Files}
 use Rattle.xs_base.specs.Sinks.{appended, AppendsPrefix}
 use Rattle.xsubpp.specs.declared.status.Status.{Status}
 use Rattle.xsubpp.specs.declared.status.Status.TheVariants.{Done, Refused, Usage, Missing, ReadFault, WriteFault, Memory}
 use Rattle.xsubpp.specs.declared.answer.Answer.{Answer}
-use Rattle.xsubpp.specs.Answers.{answer, answer_to, Ends, EndsByReads, IsStatus}
+use Rattle.xsubpp.specs.Answers.{answer, answer_to, Ends, EndsByReads, IsOut, IsStatus}
 use Rattle.xsubpp.specs.Reads.{IsAnswerOf, IsByReads}
 use Rattle.xsubpp.specs.Words.{Command, command_of}
 use Rattle.xsubpp.proofs.FilesTold.{unlike}
@@ -21,16 +22,10 @@ its_status : (a : Answer) (result : Status) → (result ≡ a.status) ⊎ (resul
 its_status a result (inl e) not_write = e
 its_status a result (inr e) not_write = absurd (not_write e)
 
--- A run ended with the status of an answer and wrote its texts, or it could not write.
-pub record IsOut (a : Answer) (result : Status) (out out' err err' : Option (List ℕ)) : Type 0 where
-  pub was : (result ≡ a.status) ⊎ (result ≡ WriteFault)
-  pub out_is : result ≢ WriteFault → out' ≡ appended out a.out
-  pub err_is : result ≢ WriteFault → err' ≡ appended err a.err
-
-pub is_out : (a : Answer) (out_text err_text : List ℕ) (result : Status) (out out' err err' : Option (List ℕ)) → (result ≡ a.status) ⊎ (result ≡ WriteFault)
-    → (result ≢ WriteFault → out' ≡ appended out out_text) → (result ≢ WriteFault → err' ≡ appended err err_text) → out_text ≡ a.out → err_text ≡ a.err → IsOut a result out out' err err'
-is_out a out_text err_text result out out' err err' was out_is err_is out_same err_same =
-    record { was = was; out_is = λ e. out_is e ∙ ap (appended out) out_same; err_is = λ e. err_is e ∙ ap (appended err) err_same }
+pub is_out : (a : Answer) (out_text err_text : List ℕ) (result : Status) (out out' err err' : Option (List ℕ)) → IsOut (record { status = a.status; out = out_text; err = err_text }) result out out' err err'
+    → out_text ≡ a.out → err_text ≡ a.err → IsOut a result out out' err err'
+is_out a out_text err_text result out out' err err' told out_same err_same =
+    record { was = told.was; out_is = λ e. told.out_is e ∙ ap (appended out) out_same; err_is = λ e. told.err_is e ∙ ap (appended err) err_same }
 
 -- a run that ended with an answer that is another
 ends_by : (a b : Answer) (s result : Status) (out out' err err' : Option (List ℕ)) → a ≡ b → IsOut a result out out' err err' → s ≢ WriteFault → result ≡ s → Ends b s out out' err err'
@@ -70,15 +65,8 @@ read_fault_or_not ReadFault = inl refl
 read_fault_or_not WriteFault = inr (unlike WriteFault ReadFault refl)
 read_fault_or_not Memory = inr (unlike Memory ReadFault refl)
 
-abbrev nothing : List ℕ
-nothing = []
-
-take_nothing : (n : ℕ) → take n nothing ≡ nothing
-take_nothing zero = refl
-take_nothing (suc n) = refl
-
 of_nothing : (out out' : Option (List ℕ)) (bytes : List ℕ) → AppendsPrefix out out' [] → AppendsPrefix out out' bytes
-of_nothing out out' bytes p = (0, omega arith, p.2 ∙ ap (appended out) (take_nothing p.0))
+of_nothing out out' bytes p = (0, omega arith, p.2 ∙ ap (appended out) (take-nil p.0))
 
 pub prefix : (words : List (List ℕ)) (files : Files) (command : Command) (told : Option Files) (before now : ℕ) (a : Answer) (out out' : Option (List ℕ))
     → IsAnswerOf told command before now a → command_of words ≡ Some command → told ≡ Some files

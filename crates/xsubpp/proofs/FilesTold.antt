@@ -1,9 +1,10 @@
 -- Of a desk that tells: where a file is lacking, and where all files are there.
-use Rattle.std.proofs.Common.{◌≡◌, ◌⊎◌, inl, inr, ℕ, ◌≤◌, Bool, true, false, List, [], ◌∷◌, length, Option, None, Some, Result, Ok, Err, refl, sym, ap, ◌∙◌, arith}
-use Rattle.std.proofs.lemmas.Bool.{eqb-false}
-use Rattle.std.proofs.lemmas.Bool.Decides.{nat_tests}
+use Rattle.std.proofs.Common.{◌≡◌, ◌⊎◌, inl, inr, ℕ, ◌≤◌, Bool, true, false, List, [], ◌∷◌, length, Option, None, Some, Result, Ok, Err, refl, sym, ap, ◌∙◌, subst}
+use Rattle.std.proofs.lemmas.Bool.{eqb-false, le-ltb, ltb-false}
 use Rattle.std.proofs.lemmas.Option.{none-some}
 use Rattle.std.specs.Prelude.{◌==◌, nat_lt, if◌then◌else◌}
+use Rattle.std.specs.Result.{result_unwrap_or}
+use Rattle.xs_base.specs.declared.desk.DeskFault.{DeskFault}
 use Rattle.xs_base.specs.declared.desk.DeskFault.TheVariants.{Longer}
 use Rattle.xs_base.specs.declared.fault.Fault.{Fault}
 use Rattle.xs_base.specs.declared.place.FileOf.{FileOf}
@@ -12,24 +13,28 @@ use Rattle.xsubpp.specs.declared.answer.Answer.{Answer}
 use Rattle.xsubpp.specs.declared.status.Status.{Status}
 use Rattle.xsubpp.specs.declared.status.Status.TheVariants.{Done, Refused, Usage, Missing}
 use Rattle.xsubpp.specs.declared.top.TheConstants.{FILE_LIMIT}
-use Rattle.xsubpp.specs.Answers.{Ends, answer, answer_to, behind_read, behind_reads, bytes_of, done_or_refused, files_of, name_of, read_bytes, told_by}
+use Rattle.xsubpp.specs.Answers.{Ends, answer, answer_to, behind_read, behind_reads, done_or_refused, files_of, name_of, read_bytes, told_by}
 use Rattle.xsubpp.specs.Lacking.{IsWithin, LacksFile, OneLacks}
 use Rattle.xsubpp.specs.Numbers.{number_of}
 use Rattle.xsubpp.specs.Words.{Command, command_of}
 use Rattle.xsubpp.specs.Written.{AreHeld}
 
-not_longer : (limit n : ℕ) → n ≤ limit → nat_lt limit n ≡ false
-not_longer limit n h = grind (arith, nat_tests)
-
-no_longer : (limit n : ℕ) → nat_lt limit n ≡ false → n ≤ limit
-no_longer limit n h = grind (arith, nat_tests)
-
 pub read_short : (limit : ℕ) (bytes : List ℕ) → length bytes ≤ limit → told_read (Some bytes) limit ≡ Ok bytes
-read_short limit bytes h = rw (not_longer limit (length bytes) h) refl
+read_short limit bytes h = rw (le-ltb limit (length bytes) h) refl
 
 -- statuses with different numbers
 pub unlike : (a b : Status) → (number_of a == number_of b) ≡ false → a ≡ b → ⊥
 unlike a b differ e = eqb-false (number_of a) (number_of b) differ (ap number_of e)
+
+by_length : (limit : ℕ) (name : List ℕ) (file : FileOf) (bytes : List ℕ) (next : Answer) (s : Status) (b : Bool) → nat_lt limit (length bytes) ≡ b → (s ≡ Refused → ⊥)
+    → (behind_read name file (if b then Err Longer else Ok bytes) next).status ≡ s → (length bytes ≤ limit) × (next.status ≡ s)
+by_length limit name file bytes next s true e other h = absurd (other (sym h))
+by_length limit name file bytes next s false e other h = (ltb-false limit (length bytes) e, h)
+
+-- A file that is there and is not refused is not longer than the limit, and what follows decides.
+short_behind : (limit : ℕ) (name : List ℕ) (file : FileOf) (bytes : List ℕ) (next : Answer) (s : Status) → (s ≡ Refused → ⊥) → (behind_read name file (told_read (Some bytes) limit) next).status ≡ s
+    → (length bytes ≤ limit) × (next.status ≡ s)
+short_behind limit name file bytes next s other h = by_length limit name file bytes next s (nat_lt limit (length bytes)) refl other h
 
 job_is_not_missing : (command : Command) (r : Result (List ℕ) Fault) → (done_or_refused command r).status ≡ Missing → ⊥
 job_is_not_missing command (Ok text) e = unlike Done Missing refl e
@@ -53,15 +58,10 @@ one_missing files command (file ∷ more) next (inl e) = missing_here (name_of c
 one_missing files command (file ∷ more) next (inr (short, h)) =
     missing_here (name_of command file) file (files (name_of command file)) _ (inr (short, one_missing files command more next h))
 
-lacks_some : (limit : ℕ) (name : List ℕ) (file : FileOf) (bytes : List ℕ) (next : Answer) (b : Bool) → nat_lt limit (length bytes) ≡ b
-    → (behind_read name file (if b then Err Longer else Ok bytes) next).status ≡ Missing → (length bytes ≤ limit) × (next.status ≡ Missing)
-lacks_some limit name file bytes next true e h = absurd (unlike Refused Missing refl h)
-lacks_some limit name file bytes next false e h = (no_longer limit (length bytes) e, h)
-
 lacks_here : (name : List ℕ) (file : FileOf) (held : Option (List ℕ)) (next : Answer) → (behind_read name file (told_read held FILE_LIMIT) next).status ≡ Missing
     → (held ≡ None) ⊎ (IsWithin held × (next.status ≡ Missing))
 lacks_here name file None next h = inl refl
-lacks_here name file (Some bytes) next h = inr (lacks_some FILE_LIMIT name file bytes next (nat_lt FILE_LIMIT (length bytes)) refl h)
+lacks_here name file (Some bytes) next h = inr (short_behind FILE_LIMIT name file bytes next Missing (unlike Missing Refused refl) h)
 
 one_lacks : (files : Files) (command : Command) (named : List FileOf) (next : Answer) → (next.status ≡ Missing → ⊥) → (behind_reads command (told_by command files) named next).status ≡ Missing
     → OneLacks files command named
@@ -90,16 +90,13 @@ missing words files h = missing_file (command_of words) files h
 
 -- ---- all files are there
 
-held_some : (limit : ℕ) (name : List ℕ) (file : FileOf) (bytes : List ℕ) (next : Answer) (b : Bool) → nat_lt limit (length bytes) ≡ b
-    → (behind_read name file (if b then Err Longer else Ok bytes) next).status ≡ Done
-    → (Some bytes ≡ Some (bytes_of (if b then Err Longer else Ok bytes))) × (length (bytes_of (if b then Err Longer else Ok bytes)) ≤ limit) × (next.status ≡ Done)
-held_some limit name file bytes next true e h = absurd (unlike Refused Done refl h)
-held_some limit name file bytes next false e h = (refl, no_longer limit (length bytes) e, h)
-
 held_here : (limit : ℕ) (name : List ℕ) (file : FileOf) (held : Option (List ℕ)) (next : Answer) → (behind_read name file (told_read held limit) next).status ≡ Done
-    → (held ≡ Some (bytes_of (told_read held limit))) × (length (bytes_of (told_read held limit)) ≤ limit) × (next.status ≡ Done)
+    → (held ≡ Some (result_unwrap_or (told_read held limit) [])) × (length (result_unwrap_or (told_read held limit) []) ≤ limit) × (next.status ≡ Done)
 held_here limit name file None next h = absurd (unlike Missing Done refl h)
-held_here limit name file (Some bytes) next h = held_some limit name file bytes next (nat_lt limit (length bytes)) refl h
+held_here limit name file (Some bytes) next h =
+    let here = short_behind limit name file bytes next Done (unlike Done Refused refl) h in
+    let P : Result (List ℕ) DeskFault → Type 0 = λ r. (Some bytes ≡ Some (result_unwrap_or r [])) × (length (result_unwrap_or r []) ≤ limit) × (next.status ≡ Done) in
+    subst P (sym (read_short limit bytes here.0)) (refl, here.0, here.1)
 
 pub are_held : (files : Files) (command : Command) (named : List FileOf) (next : Answer) → (behind_reads command (told_by command files) named next).status ≡ Done
     → AreHeld files command (read_bytes (told_by command files)) named

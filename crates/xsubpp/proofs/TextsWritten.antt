@@ -1,5 +1,6 @@
 -- What an answer writes, told of the interface that the XS file declares.
-use Rattle.std.proofs.Common.{◌≡◌, ℕ, ◌≤◌, List, length, Option, None, Some, Result, Ok, Err, refl, ap, ◌∙◌}
+use Rattle.std.proofs.Common.{◌≡◌, ℕ, ◌≤◌, List, [], length, Option, None, Some, Result, Ok, Err, refl, ap, ◌∙◌}
+use Rattle.std.specs.Result.{result_unwrap_or}
 use Rattle.xs_base.specs.declared.desk.DeskFault.{DeskFault}
 use Rattle.xs_base.specs.declared.desk.DeskFault.TheVariants as read
 use Rattle.xs_base.specs.declared.fault.Fault.{Fault}
@@ -8,20 +9,18 @@ use Rattle.xs_base.specs.declared.place.FileOf.TheVariants.{Xs, Script}
 use Rattle.xs_base.specs.Desks.{Files, told_read}
 use Rattle.xs_base.specs.Reading.{◌>>=◌}
 use Rattle.xs_call.specs.declared.calls.CallCommand.{CallCommand}
-use Rattle.xs_call.specs.Calls.{calls_said}
-use Rattle.xs_call.specs.Job.{EachTextLeavesNothing, EachTextRunsAsDeclared, call_of, check_of, compile_of, module_in}
+use Rattle.xs_call.specs.Job.{EachTextLeavesNothing, EachTextRunsAsDeclared, call_of, calls_in, check_of, compile_of, module_in}
 use Rattle.xs_call.specs.Meaning.{declared_transcript}
 use Rattle.xs_iface.specs.declared.xsub.Module.{Module}
-use Rattle.xs_script.specs.Expr.{Said}
-use Rattle.xs_script.specs.Script.{script_of}
 use Rattle.xs_stub.specs.Stub.{glue_text}
 use Rattle.xsubpp.specs.declared.answer.Answer.{Answer}
 use Rattle.xsubpp.specs.declared.status.Status.TheVariants.{Done, Memory, Missing, ReadFault, Refused, Usage}
 use Rattle.xsubpp.specs.declared.top.TheConstants.{FILE_LIMIT}
-use Rattle.xsubpp.specs.Answers.{Ends, EndsByReads, Given, accepted, accepted_of, answer, answer_by, answer_to, behind_read, bytes_of, done_or_refused, files_of, read_bytes, told_by, unread}
+use Rattle.xsubpp.specs.Answers.{Ends, EndsByReads, Given, accepted, answer, answer_by, answer_to, done_or_refused, files_of, read_bytes, told_by, unread}
 use Rattle.xsubpp.specs.Words.{Command, Compile, Call, Check, command_of}
 use Rattle.xsubpp.specs.Written.{AreHeld, HasCalls, HasModule, IsAcceptance, IsGlueOf, IsGranted, IsTaken, IsTranscriptOf, IsWritten, Wrote, WroteByReads}
 use Rattle.xsubpp.proofs.FilesTold.{are_held, read_short, unlike}
+use Rattle.xsubpp.proofs.Finishing.{both}
 
 unread_is_not_done : (name : List ℕ) (file : FileOf) (fault : DeskFault) → (unread name file fault).status ≡ Done → ⊥
 unread_is_not_done name file read.Missing e = unlike Missing Done refl e
@@ -35,13 +34,10 @@ abbrev glue_answer : List ℕ → Result Module Fault → Answer
 glue_answer name r = done_or_refused (Compile name) (r >>= λ m. Ok (glue_text m))
 
 glue_written : EachTextRunsAsDeclared → EachTextLeavesNothing → (name xs : List ℕ) (r : Result Module Fault) → module_in xs ≡ r → (glue_answer name r).status ≡ Done → IsGlueOf xs (glue_answer name r).out
-glue_written runs exact name xs (Ok m) is h = record { m = m; is_module = is; text_is = refl; runs = λ cs. runs xs m cs is; exact = λ cs. exact xs m cs is }
+glue_written runs exact name xs (Ok m) is h = record { taken = record { m = m; is_module = is }; text_is = refl; runs = λ cs. runs xs m cs is; exact = λ cs. exact xs m cs is }
 glue_written runs exact name xs (Err fault) is h = absurd (unlike Refused Done refl h)
 
-abbrev compile_answer : List ℕ → Result (List ℕ) DeskFault → Answer
-compile_answer name xs = behind_read name Xs xs (done_or_refused (Compile name) (compile_of (bytes_of xs)))
-
-compiled : EachTextRunsAsDeclared → EachTextLeavesNothing → (name : List ℕ) (xs : Result (List ℕ) DeskFault) → (compile_answer name xs).status ≡ Done → IsGlueOf (bytes_of xs) (compile_answer name xs).out
+compiled : EachTextRunsAsDeclared → EachTextLeavesNothing → (name : List ℕ) (xs : Result (List ℕ) DeskFault) → (answer_by (Compile name) (λ file. xs)).status ≡ Done → IsGlueOf (result_unwrap_or xs []) (answer_by (Compile name) (λ file. xs)).out
 unfolding compile_of
 compiled runs exact name (Ok xs) h = glue_written runs exact name xs (module_in xs) refl h
 compiled runs exact name (Err fault) h = absurd (unread_is_not_done name Xs fault h)
@@ -49,38 +45,28 @@ compiled runs exact name (Err fault) h = absurd (unread_is_not_done name Xs faul
 -- ---- call
 
 abbrev transcript_of : Command → Result Module Fault → List ℕ → Answer
-transcript_of command r script = done_or_refused command (r >>= λ m. script_of script >>= λ commands. calls_said commands >>= λ cs. Ok (declared_transcript m cs))
+transcript_of command r script = done_or_refused command (r >>= λ m. calls_in script >>= λ cs. Ok (declared_transcript m cs))
 
-calls_written : EachTextRunsAsDeclared → EachTextLeavesNothing → (command : Command) (xs script : List ℕ) (m : Module) (commands : List Said) → module_in xs ≡ Ok m → script_of script ≡ Ok commands
-    → (cs : Result (List CallCommand) Fault) → calls_said commands ≡ cs → (done_or_refused command (cs >>= λ cs. Ok (declared_transcript m cs))).status ≡ Done
+calls_written : EachTextRunsAsDeclared → EachTextLeavesNothing → (command : Command) (xs script : List ℕ) (m : Module) → module_in xs ≡ Ok m
+    → (cs : Result (List CallCommand) Fault) → calls_in script ≡ cs → (done_or_refused command (cs >>= λ cs. Ok (declared_transcript m cs))).status ≡ Done
     → IsTranscriptOf xs script (done_or_refused command (cs >>= λ cs. Ok (declared_transcript m cs))).out
-calls_written runs exact command xs script m commands is said (Ok cs) are h =
+calls_written runs exact command xs script m is (Ok cs) are h =
     record {
-      m = m;
-      is_module = is;
-      calls = record { commands = commands; cs = cs; is_script = said; are_calls = are };
+      taken = record { m = m; is_module = is };
+      calls = record { cs = cs; are_calls = are };
       text_is = refl;
       runs = runs xs m cs is;
       exact = exact xs m cs is;
     }
-calls_written runs exact command xs script m commands is said (Err fault) are h = absurd (unlike Refused Done refl h)
-
-script_written : EachTextRunsAsDeclared → EachTextLeavesNothing → (command : Command) (xs script : List ℕ) (m : Module) → module_in xs ≡ Ok m
-    → (commands : Result (List Said) Fault) → script_of script ≡ commands → (done_or_refused command (commands >>= λ commands. calls_said commands >>= λ cs. Ok (declared_transcript m cs))).status ≡ Done
-    → IsTranscriptOf xs script (done_or_refused command (commands >>= λ commands. calls_said commands >>= λ cs. Ok (declared_transcript m cs))).out
-script_written runs exact command xs script m is (Ok commands) said h = calls_written runs exact command xs script m commands is said (calls_said commands) refl h
-script_written runs exact command xs script m is (Err fault) said h = absurd (unlike Refused Done refl h)
+calls_written runs exact command xs script m is (Err fault) are h = absurd (unlike Refused Done refl h)
 
 transcript_written : EachTextRunsAsDeclared → EachTextLeavesNothing → (command : Command) (xs script : List ℕ) (r : Result Module Fault) → module_in xs ≡ r → (transcript_of command r script).status ≡ Done
     → IsTranscriptOf xs script (transcript_of command r script).out
-transcript_written runs exact command xs script (Ok m) is h = script_written runs exact command xs script m is (script_of script) refl h
+transcript_written runs exact command xs script (Ok m) is h = calls_written runs exact command xs script m is (calls_in script) refl h
 transcript_written runs exact command xs script (Err fault) is h = absurd (unlike Refused Done refl h)
 
-abbrev call_answer : List ℕ → List ℕ → Result (List ℕ) DeskFault → Result (List ℕ) DeskFault → Answer
-call_answer name script xs commands = behind_read name Xs xs (behind_read script Script commands (done_or_refused (Call name script) (call_of (bytes_of xs) (bytes_of commands))))
-
-called : EachTextRunsAsDeclared → EachTextLeavesNothing → (name script : List ℕ) (xs commands : Result (List ℕ) DeskFault) → (call_answer name script xs commands).status ≡ Done
-    → IsTranscriptOf (bytes_of xs) (bytes_of commands) (call_answer name script xs commands).out
+called : EachTextRunsAsDeclared → EachTextLeavesNothing → (name script : List ℕ) (xs commands : Result (List ℕ) DeskFault) → (answer_by (Call name script) (both xs commands)).status ≡ Done
+    → IsTranscriptOf (result_unwrap_or xs []) (result_unwrap_or commands []) (answer_by (Call name script) (both xs commands)).out
 unfolding call_of
 called runs exact name script (Ok xs) (Ok commands) h = transcript_written runs exact (Call name script) xs commands (module_in xs) refl h
 called runs exact name script (Ok xs) (Err fault) h = absurd (unread_is_not_done script Script fault h)
@@ -98,10 +84,7 @@ taken_written : (name xs : List ℕ) (r : Result Module Fault) → module_in xs 
 taken_written name xs (Ok m) is h = record { taken = record { m = m; is_module = is }; text_is = refl }
 taken_written name xs (Err fault) is h = absurd (unlike Refused Done refl h)
 
-abbrev check_answer : List ℕ → Result (List ℕ) DeskFault → Answer
-check_answer name xs = behind_read name Xs xs (done_or_refused (Check name) (accepted_of (bytes_of xs)))
-
-checked : (name : List ℕ) (xs : Result (List ℕ) DeskFault) → (check_answer name xs).status ≡ Done → IsAcceptance (bytes_of xs) (check_answer name xs).out
+checked : (name : List ℕ) (xs : Result (List ℕ) DeskFault) → (answer_by (Check name) (λ file. xs)).status ≡ Done → IsAcceptance (result_unwrap_or xs []) (answer_by (Check name) (λ file. xs)).out
 unfolding check_of
 checked name (Ok xs) h = taken_written name xs (module_in xs) refl h
 checked name (Err fault) h = absurd (unread_is_not_done name Xs fault h)
@@ -113,35 +96,35 @@ written runs exact (Compile name) given h = compiled runs exact name (given Xs) 
 written runs exact (Call name script) given h = called runs exact name script (given Xs) (given Script) h
 written runs exact (Check name) given h = checked name (given Xs) h
 
-wrote_for : EachTextRunsAsDeclared → EachTextLeavesNothing → (words : List (List ℕ)) (files : Files) (asked : Option Command) (out out' err err' : Option (List ℕ)) → command_of words ≡ asked
-    → Ends (answer_to asked files) Done out out' err err' → Wrote words files out out'
-wrote_for runs exact words files None out out' err err' is e = absurd (unlike Usage Done refl e.status_is)
-wrote_for runs exact words files (Some command) out out' err err' is e =
+wrote_for : EachTextRunsAsDeclared → EachTextLeavesNothing → (words : List (List ℕ)) (command : Command) (given : Given) (out out' err err' : Option (List ℕ)) → command_of words ≡ Some command
+    → Ends (answer_by command given) Done out out' err err' → WroteByReads words out out'
+wrote_for runs exact words command given out out' err err' is e =
     record {
       command = command;
-      bytes = read_bytes (told_by command files);
-      text = (answer_by command (told_by command files)).out;
+      bytes = read_bytes given;
+      text = (answer_by command given).out;
       is_said = is;
-      held = are_held files command (files_of command) _ e.status_is;
-      is_written = written runs exact command (told_by command files) e.status_is;
+      is_written = written runs exact command given e.status_is;
       out_is = e.out_is;
+    }
+
+wrote_asked : EachTextRunsAsDeclared → EachTextLeavesNothing → (words : List (List ℕ)) (files : Files) (asked : Option Command) (out out' err err' : Option (List ℕ)) → command_of words ≡ asked
+    → Ends (answer_to asked files) Done out out' err err' → Wrote words files out out'
+unfolding wrote_for
+wrote_asked runs exact words files None out out' err err' is e = absurd (unlike Usage Done refl e.status_is)
+wrote_asked runs exact words files (Some command) out out' err err' is e =
+    record {
+      by_reads = wrote_for runs exact words command (told_by command files) out out' err err' is e;
+      held = are_held files command (files_of command) _ e.status_is;
     }
 
 pub wrote : EachTextRunsAsDeclared → EachTextLeavesNothing → (words : List (List ℕ)) (files : Files) (out out' err err' : Option (List ℕ)) → Ends (answer words files) Done out out' err err'
     → Wrote words files out out'
 unfolding answer
-wrote runs exact words files out out' err err' e = wrote_for runs exact words files (command_of words) out out' err err' refl e
+wrote runs exact words files out out' err err' e = wrote_asked runs exact words files (command_of words) out out' err err' refl e
 
 pub wrote_by_reads : EachTextRunsAsDeclared → EachTextLeavesNothing → (words : List (List ℕ)) (out out' err err' : Option (List ℕ)) → EndsByReads words Done out out' err err' → WroteByReads words out out'
-wrote_by_reads runs exact words out out' err err' e =
-    record {
-      command = e.command;
-      bytes = read_bytes e.given;
-      text = (answer_by e.command e.given).out;
-      is_said = e.is_said;
-      is_written = written runs exact e.command e.given e.ends.status_is;
-      out_is = e.ends.out_is;
-    }
+wrote_by_reads runs exact words out out' err err' e = wrote_for runs exact words e.command e.given out out' err err' e.is_said e.ends
 
 -- ---- all that is read is taken
 
@@ -154,7 +137,7 @@ compile_done name xs given is h = rw (is, h.is_module) refl
 
 call_done : (name script xs commands : List ℕ) (given : Given) → given Xs ≡ Ok xs → given Script ≡ Ok commands → HasModule xs → HasCalls commands → (answer_by (Call name script) given).status ≡ Done
 unfolding call_of
-call_done name script xs commands given is is_commands h calls = rw (is, is_commands, h.is_module, calls.is_script, calls.are_calls) refl
+call_done name script xs commands given is is_commands h calls = rw (is, is_commands, h.is_module, calls.are_calls) refl
 
 check_done : (name xs : List ℕ) (given : Given) → given Xs ≡ Ok xs → HasModule xs → (answer_by (Check name) given).status ≡ Done
 unfolding check_of

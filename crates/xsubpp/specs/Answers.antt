@@ -1,8 +1,10 @@
 -- What a run answers: its status, and what is written to each sink.
 use Rattle.std.specs.Fmt.{decimal}
-use Rattle.std.specs.Prelude.{◌≡◌, ◌⊎◌, ℕ, ◌==◌, List, [], ◌∷◌, ◌++◌, codes, Option, None, Some, Result, Ok, Err, if◌then◌else◌}
+use Rattle.std.specs.Prelude.{◌≡◌, ◌≢◌, ◌⊎◌, ℕ, ◌==◌, List, [], ◌∷◌, ◌++◌, codes, Option, None, Some, Result, Ok, Err, if◌then◌else◌}
+use Rattle.std.specs.Result.{result_unwrap_or}
 use Rattle.xs_base.specs.declared.desk.DeskFault.{DeskFault}
 use Rattle.xs_base.specs.declared.desk.DeskFault.TheVariants as read
+use Rattle.xs_base.specs.Reading.{fault_in}
 use Rattle.xs_base.specs.declared.fault.Fault.{Fault}
 use Rattle.xs_base.specs.declared.place.FileOf.{FileOf}
 use Rattle.xs_base.specs.declared.place.FileOf.TheVariants.{Xs, Typemap, Script, Text}
@@ -92,7 +94,7 @@ refused name fault = record { status = Refused; out = []; err = fault_line name 
 -- a file that was not read
 abbrev pub unread : List ℕ → FileOf → DeskFault → Answer
 unread name file read.Missing = record { status = Missing; out = []; err = file_line name (codes ": missing") }
-unread name file read.Longer = refused name (record { file = file; line = 0; code = 101; word = [] })
+unread name file read.Longer = refused name (fault_in file 0 101 [])
 unread name file read.Failed = record { status = ReadFault; out = []; err = file_line name (codes ": read fault") }
 unread name file read.Memory = record { status = Memory; out = []; err = [] }
 
@@ -104,13 +106,9 @@ done_or_refused command (Err fault) = refused (name_of command fault.file) fault
 abbrev pub Given : Type 0
 Given = FileOf → Result (List ℕ) DeskFault
 
-abbrev pub bytes_of : Result (List ℕ) DeskFault → List ℕ
-bytes_of (Ok bytes) = bytes
-bytes_of (Err fault) = []
-
 -- the bytes that were read
 abbrev pub read_bytes : Given → FileOf → List ℕ
-read_bytes given file = bytes_of (given file)
+read_bytes given file = result_unwrap_or (given file) []
 
 abbrev pub behind_read : List ℕ → FileOf → Result (List ℕ) DeskFault → Answer → Answer
 behind_read name file (Ok bytes) next = next
@@ -145,6 +143,12 @@ answer words files = answer_to (command_of words) files
 -- A run ends with this status, or it could not write, or it found no memory.
 abbrev pub IsStatus : Status → Status → Type 0
 IsStatus status result = (result ≡ status) ⊎ ((result ≡ WriteFault) ⊎ (result ≡ Memory))
+
+-- A run ended with the status of an answer and wrote its texts, or it could not write.
+pub record IsOut (a : Answer) (result : Status) (out out' err err' : Option (List ℕ)) : Type 0 where
+  pub was : (result ≡ a.status) ⊎ (result ≡ WriteFault)
+  pub out_is : result ≢ WriteFault → out' ≡ appended out a.out
+  pub err_is : result ≢ WriteFault → err' ≡ appended err a.err
 
 -- A run ended with this answer, and wrote it.
 pub record Ends (a : Answer) (status : Status) (out out' err err' : Option (List ℕ)) : Type 0 where

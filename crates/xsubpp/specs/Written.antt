@@ -5,12 +5,9 @@ use Rattle.xs_base.specs.declared.place.FileOf.TheVariants.{Xs, Script}
 use Rattle.xs_base.specs.Desks.{Files}
 use Rattle.xs_base.specs.Sinks.{appended}
 use Rattle.xs_call.specs.declared.calls.CallCommand.{CallCommand}
-use Rattle.xs_call.specs.Calls.{calls_said}
-use Rattle.xs_call.specs.Job.{LeavesNothing, TextRunsAsDeclared, module_in}
+use Rattle.xs_call.specs.Job.{LeavesNothing, TextRunsAsDeclared, calls_in, module_in}
 use Rattle.xs_call.specs.Meaning.{declared_transcript}
 use Rattle.xs_iface.specs.declared.xsub.Module.{Module}
-use Rattle.xs_script.specs.Expr.{Said}
-use Rattle.xs_script.specs.Script.{script_of}
 use Rattle.xs_stub.specs.Stub.{glue_text}
 use Rattle.xsubpp.specs.declared.top.TheConstants.{FILE_LIMIT}
 use Rattle.xsubpp.specs.Answers.{accepted, files_of, name_of}
@@ -25,10 +22,8 @@ pub record HasModule (xs : List ℕ) : Type 0 where
 
 -- A script is taken where its commands are calls.
 pub record HasCalls (script : List ℕ) : Type 0 where
-  pub commands : List Said
   pub cs : List CallCommand
-  pub is_script : script_of script ≡ Ok commands
-  pub are_calls : calls_said commands ≡ Ok cs
+  pub are_calls : calls_in script ≡ Ok cs
 
 -- All that a command reads is taken.
 abbrev pub IsTaken : Command → (FileOf → List ℕ) → Type 0
@@ -40,20 +35,18 @@ IsTaken (Check file) bytes = HasModule (bytes Xs)
 
 -- The glue text of an XS file. For each list of calls the text, read and run, gives the declared transcript and leaves nothing behind.
 pub record IsGlueOf (xs text : List ℕ) : Type 0 where
-  pub m : Module
-  pub is_module : module_in xs ≡ Ok m
-  pub text_is : text ≡ glue_text m
-  pub runs : (cs : List CallCommand) → TextRunsAsDeclared m cs
-  pub exact : (cs : List CallCommand) → LeavesNothing m cs
+  pub taken : HasModule xs
+  pub text_is : text ≡ glue_text taken.m
+  pub runs : (cs : List CallCommand) → TextRunsAsDeclared taken.m cs
+  pub exact : (cs : List CallCommand) → LeavesNothing taken.m cs
 
 -- The declared transcript of a script. The glue text, read and run, gives the same and leaves nothing behind.
 pub record IsTranscriptOf (xs script text : List ℕ) : Type 0 where
-  pub m : Module
-  pub is_module : module_in xs ≡ Ok m
+  pub taken : HasModule xs
   pub calls : HasCalls script
-  pub text_is : text ≡ declared_transcript m calls.cs
-  pub runs : TextRunsAsDeclared m calls.cs
-  pub exact : LeavesNothing m calls.cs
+  pub text_is : text ≡ declared_transcript taken.m calls.cs
+  pub runs : TextRunsAsDeclared taken.m calls.cs
+  pub exact : LeavesNothing taken.m calls.cs
 
 -- That an XS file is taken.
 pub record IsAcceptance (xs text : List ℕ) : Type 0 where
@@ -81,16 +74,6 @@ pub record IsGranted (words : List (List ℕ)) (files : Files) : Type 0 where
   pub held : AreHeld files command bytes (files_of command)
   pub taken : IsTaken command bytes
 
--- What was written on `out`, by the files of the desk.
-pub record Wrote (words : List (List ℕ)) (files : Files) (out out' : Option (List ℕ)) : Type 0 where
-  pub command : Command
-  pub bytes : FileOf → List ℕ
-  pub text : List ℕ
-  pub is_said : command_of words ≡ Some command
-  pub held : AreHeld files command bytes (files_of command)
-  pub is_written : IsWritten command bytes text
-  pub out_is : out' ≡ appended out text
-
 -- What was written on `out`, by some bytes that were read.
 pub record WroteByReads (words : List (List ℕ)) (out out' : Option (List ℕ)) : Type 0 where
   pub command : Command
@@ -99,3 +82,8 @@ pub record WroteByReads (words : List (List ℕ)) (out out' : Option (List ℕ))
   pub is_said : command_of words ≡ Some command
   pub is_written : IsWritten command bytes text
   pub out_is : out' ≡ appended out text
+
+-- What was written on `out`, by the files of the desk.
+pub record Wrote (words : List (List ℕ)) (files : Files) (out out' : Option (List ℕ)) : Type 0 where
+  pub by_reads : WroteByReads words out out'
+  pub held : AreHeld files by_reads.command by_reads.bytes (files_of by_reads.command)

@@ -35,12 +35,7 @@ pub fn unread(alloc: Global, name: &Bytes, file: FileOf, fault: DeskFault) -> Re
             file_line(alloc, name, b": read fault")?,
         ),
         DeskFault::Longer => {
-            let fault = Fault {
-                file,
-                line: 0,
-                code: 101,
-                word: Bytes::new(alloc),
-            };
+            let fault = Fault::bare(alloc, file, 0, 101);
             on_err(alloc, Status::Refused, fault_line(alloc, name, &fault)?)
         }
         DeskFault::Memory => Err(Memory),

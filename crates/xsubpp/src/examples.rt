@@ -10,13 +10,12 @@ pub struct Example {
     pub told: &'static str,
 }
 
-/// The examples.
-pub const EXAMPLES: [Example; 13] = [
-    // Two parameters.
-    Example {
-        xs: "MODULE = M PACKAGE = M\n\nint\nadd(int a, int b)\n  CODE:\n    RETVAL = a + b;\n  OUTPUT:\n    RETVAL\n",
-        script: "call M::add(2, 3)\n",
-        glue: "/* xsubpp glue, data model LP64 */
+/// An XSUB that adds two numbers.
+pub const ADD: &str =
+    "MODULE = M PACKAGE = M\n\nint\nadd(int a, int b)\n  CODE:\n    RETVAL = a + b;\n  OUTPUT:\n    RETVAL\n";
+
+/// What `compile` writes for it.
+const ADD_GLUE: &str = "/* xsubpp glue, data model LP64 */
 
 XS(XS_M_add)
 {
@@ -44,7 +43,15 @@ XS(boot_M)
     newXS_deffile(\"M::add\", XS_M_add);
     XSRETURN_YES;
 }
-",
+";
+
+/// The examples.
+pub const EXAMPLES: [Example; 14] = [
+    // Two parameters.
+    Example {
+        xs: ADD,
+        script: "call M::add(2, 3)\n",
+        glue: ADD_GLUE,
         told: "boot returned
   live 0 marks 0 scopes 0
 call 1 M::add returned 1
@@ -56,37 +63,9 @@ call 1 M::add returned 1
     },
     // Too few arguments, then too many.
     Example {
-        xs: "MODULE = M PACKAGE = M\n\nint\nadd(int a, int b)\n  CODE:\n    RETVAL = a + b;\n  OUTPUT:\n    RETVAL\n",
+        xs: ADD,
         script: "call M::add(2)\ncall M::add(1, 2, 3)\n",
-        glue: "/* xsubpp glue, data model LP64 */
-
-XS(XS_M_add)
-{
-    dXSARGS;
-    if (items != 2)
-        croak_xs_usage(cv, \"a, b\");
-    {
-        int a;
-        int b;
-        int RETVAL;
-        SV *RETVALSV;
-        a = (int)SvIV(ST(0));
-        b = (int)SvIV(ST(1));
-    RETVAL = a + b;
-        RETVALSV = sv_newmortal();
-        sv_setiv(RETVALSV, (IV)RETVAL);
-        ST(0) = RETVALSV;
-        XSRETURN(1);
-    }
-}
-
-XS(boot_M)
-{
-    dXSARGS;
-    newXS_deffile(\"M::add\", XS_M_add);
-    XSRETURN_YES;
-}
-",
+        glue: ADD_GLUE,
         told: "boot returned
   live 0 marks 0 scopes 0
 call 1 M::add croaked \"Usage: M::add(a, b)\"
@@ -400,37 +379,9 @@ call 1 M::next returned 1
     },
     // A number that an int does not hold is cut to it.
     Example {
-        xs: "MODULE = M PACKAGE = M\n\nint\nadd(int a, int b)\n  CODE:\n    RETVAL = a + b;\n  OUTPUT:\n    RETVAL\n",
+        xs: ADD,
         script: "call M::add(4294967297, 1)\ncall M::add(-4294967297, 9223372036854775807)\n",
-        glue: "/* xsubpp glue, data model LP64 */
-
-XS(XS_M_add)
-{
-    dXSARGS;
-    if (items != 2)
-        croak_xs_usage(cv, \"a, b\");
-    {
-        int a;
-        int b;
-        int RETVAL;
-        SV *RETVALSV;
-        a = (int)SvIV(ST(0));
-        b = (int)SvIV(ST(1));
-    RETVAL = a + b;
-        RETVALSV = sv_newmortal();
-        sv_setiv(RETVALSV, (IV)RETVAL);
-        ST(0) = RETVALSV;
-        XSRETURN(1);
-    }
-}
-
-XS(boot_M)
-{
-    dXSARGS;
-    newXS_deffile(\"M::add\", XS_M_add);
-    XSRETURN_YES;
-}
-",
+        glue: ADD_GLUE,
         told: "boot returned
   live 0 marks 0 scopes 0
 call 1 M::add returned 1
@@ -447,37 +398,9 @@ call 2 M::add returned 1
     },
     // No such function, and an empty list of arguments.
     Example {
-        xs: "MODULE = M PACKAGE = M\n\nint\nadd(int a, int b)\n  CODE:\n    RETVAL = a + b;\n  OUTPUT:\n    RETVAL\n",
+        xs: ADD,
         script: "call M::nope()\n\ncall M::add()\n",
-        glue: "/* xsubpp glue, data model LP64 */
-
-XS(XS_M_add)
-{
-    dXSARGS;
-    if (items != 2)
-        croak_xs_usage(cv, \"a, b\");
-    {
-        int a;
-        int b;
-        int RETVAL;
-        SV *RETVALSV;
-        a = (int)SvIV(ST(0));
-        b = (int)SvIV(ST(1));
-    RETVAL = a + b;
-        RETVALSV = sv_newmortal();
-        sv_setiv(RETVALSV, (IV)RETVAL);
-        ST(0) = RETVALSV;
-        XSRETURN(1);
-    }
-}
-
-XS(boot_M)
-{
-    dXSARGS;
-    newXS_deffile(\"M::add\", XS_M_add);
-    XSRETURN_YES;
-}
-",
+        glue: ADD_GLUE,
         told: "boot returned
   live 0 marks 0 scopes 0
 call 1 M::nope croaked \"Undefined subroutine &M::nope called\"
@@ -486,39 +409,28 @@ call 3 M::add croaked \"Usage: M::add(a, b)\"
   live 0 marks 0 scopes 0
 ",
     },
+    // The script goes on behind a croak and behind a call, and ends behind a trap.
+    Example {
+        xs: ADD,
+        script: "call M::add()\ncall M::add(-2, 2147483647)\ncall M::add(2147483647, 1)\ncall M::add(1, 1)\n",
+        glue: ADD_GLUE,
+        told: "boot returned
+  live 0 marks 0 scopes 0
+call 1 M::add croaked \"Usage: M::add(a, b)\"
+  live 0 marks 0 scopes 0
+call 2 M::add returned 1
+  item 0 = 2147483645
+  arg 0 = -2
+  arg 1 = 2147483647
+  live 0 marks 0 scopes 0
+call 3 M::add trapped Overflow
+",
+    },
     // The least sum that an int holds, and one below.
     Example {
-        xs: "MODULE = M PACKAGE = M\n\nint\nadd(int a, int b)\n  CODE:\n    RETVAL = a + b;\n  OUTPUT:\n    RETVAL\n",
+        xs: ADD,
         script: "call M::add(-2147483647, -1)\ncall M::add(-2147483648, -1)\n",
-        glue: "/* xsubpp glue, data model LP64 */
-
-XS(XS_M_add)
-{
-    dXSARGS;
-    if (items != 2)
-        croak_xs_usage(cv, \"a, b\");
-    {
-        int a;
-        int b;
-        int RETVAL;
-        SV *RETVALSV;
-        a = (int)SvIV(ST(0));
-        b = (int)SvIV(ST(1));
-    RETVAL = a + b;
-        RETVALSV = sv_newmortal();
-        sv_setiv(RETVALSV, (IV)RETVAL);
-        ST(0) = RETVALSV;
-        XSRETURN(1);
-    }
-}
-
-XS(boot_M)
-{
-    dXSARGS;
-    newXS_deffile(\"M::add\", XS_M_add);
-    XSRETURN_YES;
-}
-",
+        glue: ADD_GLUE,
         told: "boot returned
   live 0 marks 0 scopes 0
 call 1 M::add returned 1

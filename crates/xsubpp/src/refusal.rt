@@ -13,9 +13,9 @@ pub fn fault_line(alloc: Global, name: &Bytes, fault: &Fault) -> Result<Bytes, M
 {
     let mut line = name.copy(alloc)?;
     line.append(b":")?;
-    append_number(alloc, &mut line, fault.line)?;
+    line.append_number(alloc, u64::from(fault.line))?;
     line.append(b": ")?;
-    append_number(alloc, &mut line, u32::from(fault.code))?;
+    line.append_number(alloc, u64::from(fault.code))?;
     line.append(b" ")?;
     line.append(refusal_text(fault.code))?;
     append_word(&mut line, &fault.word)?;
@@ -32,13 +32,6 @@ pub fn file_line(alloc: Global, name: &Bytes, what: &[u8]) -> Result<Bytes, Memo
     line.append(what)?;
     line.append(b"\n")?;
     Ok(line)
-}
-
-fn append_number(alloc: Global, line: &mut Bytes, n: u32) -> Result<(), Memory>
-    ensures { OnOk result (line.new ≡ line.old ++ decimal n) }
-{
-    let digits = n.to_string(alloc)?;
-    line.append(digits.as_bytes())
 }
 
 fn append_word(line: &mut Bytes, word: &Bytes) -> Result<(), Memory>

@@ -1,44 +1,45 @@
 //! Worked examples, through the top call and in memory: what each run writes, and its status.
-use crate::examples::{EXAMPLES, Example};
+use crate::examples::{ADD, EXAMPLES, Example};
 use crate::wide_examples::WIDE_EXAMPLES;
 use crate::{Status, xsubpp};
 use std::alloc::Global;
 use std::test::Fail;
 use xs_base::{Bytes, MemDesk, MemSink};
 
-const ADD: &[u8] =
-    b"MODULE = M PACKAGE = M\n\nint\nadd(int a, int b)\n  CODE:\n    RETVAL = a + b;\n  OUTPUT:\n    RETVAL\n";
-
-const BOOT: &str = "boot returned\n  live 0 marks 0 scopes 0\n";
-
-const SETTLED: &str = "  live 0 marks 0 scopes 0\n";
-
 fn text(alloc: Global, bytes: &[u8]) -> Result<Bytes, Fail> {
     Ok(Bytes::from_slice(alloc, bytes).map_err(|_| "memory")?)
 }
 
+fn add(alloc: Global, desk: &mut MemDesk, name: &[u8], bytes: &[u8]) -> Result<(), Fail> {
+    desk.add(text(alloc, name)?, text(alloc, bytes)?)
+        .map_err(|_| "memory")?;
+    Ok(())
+}
+
 fn desk(alloc: Global, xs: &[u8], script: &[u8]) -> Result<MemDesk, Fail> {
     let mut desk = MemDesk::new(alloc);
-    desk.add(text(alloc, b"a.xs")?, text(alloc, xs)?)
-        .map_err(|_| "memory")?;
-    desk.add(text(alloc, b"a.txt")?, text(alloc, script)?)
-        .map_err(|_| "memory")?;
+    add(alloc, &mut desk, b"a.xs", xs)?;
+    add(alloc, &mut desk, b"a.txt", script)?;
     Ok(desk)
 }
 
-// A run with both sinks of a width and a room, and what it writes on each.
+// A sink that takes seven bytes a write, and so many in all.
+fn sink(alloc: Global, room: u32) -> Result<MemSink, Fail> {
+    Ok(MemSink::new(alloc, 7, room).map_err(|_| "memory")?)
+}
+
+// How a run ends, with this sink for its text, and what it writes on each sink.
 fn run(
     alloc: Global,
     words: &[&str],
     desk: &mut MemDesk,
-    room: u32,
+    mut out: MemSink,
 ) -> Result<(Status, MemSink, MemSink), Fail> {
     let mut all = Vec::new(alloc);
     for word in words {
         all.push(text(alloc, word.as_bytes())?)?;
     }
-    let mut out = MemSink::new(alloc, 7, room).map_err(|_| "memory")?;
-    let mut err = MemSink::new(alloc, 5, 4096).map_err(|_| "memory")?;
+    let mut err = sink(alloc, 4096)?;
     let status = xsubpp(alloc, all.as_slice(), desk, &mut out, &mut err);
     Ok((status, out, err))
 }
@@ -54,7 +55,7 @@ const USAGE: &str =
 
 // What a command writes on `out`, where it does its work.
 fn writes(alloc: Global, words: &[&str], desk: &mut MemDesk, text: &str) -> Result<bool, Fail> {
-    let (status, out, err) = run(alloc, words, desk, 4096)?;
+    let (status, out, err) = run(alloc, words, desk, sink(alloc, 4096)?)?;
     Ok(status == Status::Done && out.bytes() == text.as_bytes() && err.bytes().is_empty())
 }
 
@@ -80,12 +81,6 @@ fn worked_examples(rt: HostRuntime) -> Result<(), Fail> {
     Ok(())
 }
 
-// The transcript of a script, which is written whole.
-fn tells(alloc: Global, xs: &[u8], script: &[u8], told: &str) -> Result<bool, Fail> {
-    let mut desk = desk(alloc, xs, script)?;
-    writes(alloc, &CALL, &mut desk, told)
-}
-
 // Whether a run ends so, with this line alone.
 fn ends(
     alloc: Global,
@@ -94,7 +89,7 @@ fn ends(
     how: Status,
     line: &str,
 ) -> Result<bool, Fail> {
-    let (status, out, err) = run(alloc, words, desk, 4096)?;
+    let (status, out, err) = run(alloc, words, desk, sink(alloc, 4096)?)?;
     Ok(status == how && out.bytes().is_empty() && err.bytes() == line.as_bytes())
 }
 
@@ -111,87 +106,9 @@ fn refuses(
     ends(alloc, words, &mut desk, how, line)
 }
 
-// What a boot and one call tell.
-fn tells_call(alloc: Global, script: &[u8], told: &str) -> Result<bool, Fail> {
-    let whole = format!(in alloc; "{BOOT}{told}")?;
-    tells(alloc, ADD, script, whole.as_str())
-}
-
-fn tells_settled_call(alloc: Global, script: &[u8], told: &str) -> Result<bool, Fail> {
-    let whole = format!(in alloc; "{told}{SETTLED}")?;
-    tells_call(alloc, script, whole.as_str())
-}
-
-#[test]
-fn sums(rt: HostRuntime) -> Result<(), Fail> {
-    let alloc = rt.alloc();
-    assert!(rt;
-        tells_settled_call(
-            alloc,
-            b"call M::add(2, 3)",
-            "call 1 M::add returned 1\n  item 0 = 5\n  arg 0 = 2\n  arg 1 = 3\n",
-        )?
-    );
-    assert!(rt;
-        tells_settled_call(
-            alloc,
-            b"call M::add(-2, 2147483647)\n",
-            "call 1 M::add returned 1\n  item 0 = 2147483645\n  arg 0 = -2\n  arg 1 = 2147483647\n",
-        )?
-    );
-    // a number that an `int` does not hold is cut to it
-    assert!(rt;
-        tells_settled_call(
-            alloc,
-            b"call M::add(4294967297, 1)",
-            "call 1 M::add returned 1\n  item 0 = 2\n  arg 0 = 4294967297\n  arg 1 = 1\n",
-        )?
-    );
-    assert!(rt;
-        tells_call(
-            alloc,
-            b"call M::add(2147483647, 1)",
-            "call 1 M::add trapped Overflow\n",
-        )?
-    );
-    Ok(())
-}
-
-#[test]
-fn croaks(rt: HostRuntime) -> Result<(), Fail> {
-    let alloc = rt.alloc();
-    assert!(rt;
-        tells_settled_call(
-            alloc,
-            b"call M::add(2)",
-            "call 1 M::add croaked \"Usage: M::add(a, b)\"\n  arg 0 = 2\n",
-        )?
-    );
-    assert!(rt;
-        tells_settled_call(
-            alloc,
-            b"call M::nope()",
-            "call 1 M::nope croaked \"Undefined subroutine &M::nope called\"\n",
-        )?
-    );
-    // the script goes on behind a croak, and ends behind a trap
-    let told = format!(in alloc;
-        "{BOOT}call 1 M::add croaked \"Usage: M::add(a, b)\"\n{SETTLED}call 2 M::add trapped Overflow\n"
-    )?;
-    assert!(rt;
-        tells(
-            alloc,
-            ADD,
-            b"call M::add()\ncall M::add(-2147483648, -1)\ncall M::add(1, 1)\n",
-            told.as_str(),
-        )?
-    );
-    Ok(())
-}
-
 // Words that are no command.
 fn is_usage(alloc: Global, words: &[&str]) -> Result<bool, Fail> {
-    refuses(alloc, words, ADD, b"", Status::Usage, USAGE)
+    refuses(alloc, words, ADD.as_bytes(), b"", Status::Usage, USAGE)
 }
 
 #[test]
@@ -214,7 +131,7 @@ fn usages(rt: HostRuntime) -> Result<(), Fail> {
 
 // Whether a file that words name is told as missing.
 fn misses(alloc: Global, words: &[&str], line: &str) -> Result<bool, Fail> {
-    refuses(alloc, words, ADD, b"", Status::Missing, line)
+    refuses(alloc, words, ADD.as_bytes(), b"", Status::Missing, line)
 }
 
 // Whether `call` refuses an XS file and a script so.
@@ -234,14 +151,14 @@ fn refusals(rt: HostRuntime) -> Result<(), Fail> {
     // the XS file decides before the script
     assert!(rt; call_refuses(alloc, b"int\n", b"cal\n", no_module)?);
     let bad_line = "a.txt:2: 951 bad script line\n";
-    assert!(rt; call_refuses(alloc, ADD, b"\ncal\n", bad_line)?);
+    assert!(rt; call_refuses(alloc, ADD.as_bytes(), b"\ncal\n", bad_line)?);
     Ok(())
 }
 
 #[test]
 fn edges(rt: HostRuntime) -> Result<(), Fail> {
     let alloc = rt.alloc();
-    let mut failing = desk(alloc, ADD, b"")?;
+    let mut failing = desk(alloc, ADD.as_bytes(), b"")?;
     failing.fail_at(2).map_err(|_| "memory")?;
     assert!(rt;
         ends(
@@ -253,26 +170,24 @@ fn edges(rt: HostRuntime) -> Result<(), Fail> {
         )?
     );
 
-    let mut desk = desk(alloc, ADD, b"")?;
-    let (status, out, err) = run(alloc, &CALL, &mut desk, 10)?;
+    let mut desk = desk(alloc, ADD.as_bytes(), b"")?;
+    let (status, out, err) = run(alloc, &CALL, &mut desk, sink(alloc, 10)?)?;
     assert!(rt; status == Status::WriteFault);
     assert!(rt; out.bytes() == b"boot retur".as_slice());
     assert!(rt; err.bytes().is_empty());
     Ok(())
 }
 
-// What `compile` writes into a sink of sixteen bytes a write, whose second write fails.
+// What `compile` writes into a sink whose second write fails.
 #[test]
 fn second_write_fails(rt: HostRuntime) -> Result<(), Fail> {
     let alloc = rt.alloc();
-    let mut desk = desk(alloc, ADD, b"")?;
-    let words = [text(alloc, b"compile")?, text(alloc, b"a.xs")?];
-    let mut out = MemSink::new(alloc, 16, 4096).map_err(|_| "memory")?;
-    out.fail_at(2).map_err(|_| "memory")?;
-    let mut err = MemSink::new(alloc, 16, 4096).map_err(|_| "memory")?;
-    let status = xsubpp(alloc, &words, &mut desk, &mut out, &mut err);
+    let mut desk = desk(alloc, ADD.as_bytes(), b"")?;
+    let mut failing = sink(alloc, 4096)?;
+    failing.fail_at(2).map_err(|_| "memory")?;
+    let (status, out, err) = run(alloc, &COMPILE, &mut desk, failing)?;
     assert!(rt; status == Status::WriteFault);
-    assert!(rt; out.bytes() == b"/* xsubpp glue, ".as_slice());
+    assert!(rt; out.bytes() == b"/* xsub".as_slice());
     assert!(rt; err.bytes().is_empty());
     Ok(())
 }
@@ -325,36 +240,13 @@ fn first_faults(rt: HostRuntime) -> Result<(), Fail> {
     Ok(())
 }
 
-// `check` of a file that stands alone, then of none, then where the read fails.
+// `check` reads no script.
 #[test]
 fn checks(rt: HostRuntime) -> Result<(), Fail> {
     let alloc = rt.alloc();
     let mut desk = MemDesk::new(alloc);
-    desk.add(text(alloc, b"a.xs")?, text(alloc, ADD)?)
-        .map_err(|_| "memory")?;
+    add(alloc, &mut desk, b"a.xs", ADD.as_bytes())?;
     assert!(rt; writes(alloc, &CHECK, &mut desk, "accepted\n")?);
-    let words = ["check", "none.xs"];
-    assert!(rt;
-        ends(
-            alloc,
-            &words,
-            &mut desk,
-            Status::Missing,
-            "none.xs: missing\n"
-        )?
-    );
-
-    let mut failing = MemDesk::new(alloc);
-    failing.fail_at(1).map_err(|_| "memory")?;
-    assert!(rt;
-        ends(
-            alloc,
-            &words,
-            &mut failing,
-            Status::ReadFault,
-            "none.xs: read fault\n"
-        )?
-    );
     Ok(())
 }
 

@@ -2,9 +2,9 @@
 ghost use Rattle.std.specs.Option.{ForSome};
 ghost use Rattle.std.specs.Prelude.{◌≡◌, ◌≢◌, ◌⊎◌, None};
 ghost use Rattle.xs_base.specs.Causes.{Rose};
-ghost use Rattle.xs_base.specs.Sinks.{AppendsPrefix, appended};
+ghost use Rattle.xs_base.specs.Sinks.{AppendsPrefix};
 ghost use Rattle.xs_call.specs.Job.{EachTextLeavesNothing, EachTextRunsAsDeclared};
-ghost use Rattle.xsubpp.specs.Answers.{Ends, EndsByReads, IsStatus, answer, usage};
+ghost use Rattle.xsubpp.specs.Answers.{Ends, EndsByReads, IsOut, IsStatus, answer, usage};
 ghost use Rattle.xsubpp.specs.Lacking.{LacksFile};
 ghost use Rattle.xsubpp.specs.Reads.{PrefixByReads};
 ghost use Rattle.xsubpp.specs.Words.{command_of};
@@ -114,9 +114,8 @@ fn finish<O: Sink, E: Sink>(
     err: &mut E,
 ) -> Status
     requires { status ≢ Status.WriteFault }
-    ensures status { (result ≡ status) ⊎ (result ≡ Status.WriteFault) }
-    ensures out { result ≢ Status.WriteFault → O.told out.new ≡ appended (O.told out.old) out_text.now }
-    ensures err { result ≢ Status.WriteFault → E.told err.new ≡ appended (E.told err.old) err_text.now }
+    ensures is_out { IsOut (record { status = status; out = out_text.now; err = err_text.now }) result
+        (O.told out.old) (O.told out.new) (E.told err.old) (E.told err.new) }
     ensures prefix { AppendsPrefix (O.told out.old) (O.told out.new) out_text.now }
     ensures cause { result ≡ Status.WriteFault →
         Rose (O.fault_count out.old) (O.fault_count out.new) ⊎ Rose (E.fault_count err.old) (E.fault_count err.new) }

@@ -7,9 +7,10 @@ use Rattle.xs_base.specs.Reading.{Fails}
 use Rattle.xs_csyn.specs.Tree.{Call, exprs_of}
 use Rattle.xs_csyn.specs.View.{plain}
 use Rattle.xs_csyn.proofs.Views.{plain-Call}
-use Rattle.xs_ccheck.specs.Resolving.{GivesExpr}
+use Rattle.xs_ccheck.specs.Resolving.{GivesExpr, HasTyped, typed_in}
 use Rattle.xs_ccheck.specs.Typing.{Operands, expr, exprs, usage, usage_word, called, wanted, row_named, expr_count}
-use Rattle.xs_ccheck.proofs.Calls.{call_usage, call_done, call_fails, count_is, on_from}
+use Rattle.xs_ccheck.proofs.Kept.{resolves_on}
+use Rattle.xs_ccheck.proofs.Calls.{call_usage, call_done, call_fails, count_is}
 use Rattle.xs_ccheck.proofs.resolve_exprs.+expr.Goals as goal
 
 pub expr-returns-then-is : goal.expr-returns-then-is
@@ -60,5 +61,5 @@ expr-returns-in_ok-xs-in-Call t c =
     ∙ ap (λ n. called line name n (row_named name) value) (sym count)
     ∙ ap (λ r. called line name c.len.result r value) row
     ∙ ap (λ n. called line n c.len.result (option_map (row_of []) c.row_named-row.result) value) (sym c.as_slice-in-Call-4.ensures) in
-    on_from c.called.result c.args.nodes.now c.exprs.new.nodes c.called.new.nodes _ xs.keeps
+    resolves_on typed_in HasTyped c.called.result c.args.nodes.now c.exprs.new.nodes c.called.new.nodes _ xs.keeps
     (subst (λ r. GivesExpr c.called.result c.exprs.new.nodes c.called.new.nodes r) (sym all) c.called.ensures)

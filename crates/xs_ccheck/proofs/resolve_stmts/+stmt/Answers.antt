@@ -1,15 +1,15 @@
-use Rattle.std.proofs.Common.{◌≡◌, ◌∙◌, ap, sym, subst, true, ◌∷◌, map, take, length, rules, arith, Ok}
+use Rattle.std.proofs.Common.{◌≡◌, ◌∙◌, ap, sym, subst, true, ◌∷◌, map, length, rules, arith, Ok}
 use Rattle.std.proofs.lemmas.Grind.{common_steps}
 use Rattle.xs_csyn.specs.Tree as syntax
 use Rattle.xs_csyn.specs.Tree.{stmts_of}
 use Rattle.xs_csyn.specs.View.{plain, plain_stmt}
 use Rattle.xs_csyn.proofs.Views.{plain_stmt-Block, plain_stmt-Effect, plain_stmt-If}
-use Rattle.xs_ccheck.specs.Growth.{tree_in, trees_in}
-use Rattle.xs_ccheck.specs.ResolvingStmts.{GivesStmt, GivesStmts, names_in}
+use Rattle.xs_ccheck.specs.Growth.{HasNode, tree_in, trees_in}
+use Rattle.xs_ccheck.specs.ResolvingStmts.{done_in, GivesStmt, GivesStmts, names_in}
 use Rattle.xs_ccheck.specs.Tree.{Block, If, Forget, NoTrees, MoreTrees}
-use Rattle.xs_ccheck.specs.Typing.{done, behind_block, expr, stmt, stmts, is_condition}
-use Rattle.xs_ccheck.proofs.Kept.{keeps_on}
-use Rattle.xs_ccheck.proofs.Stmts.{block_done, effect_done, if_done, more_done, done_from}
+use Rattle.xs_ccheck.specs.Typing.{done, behind_block, knowing, expr, stmt, stmts, is_condition}
+use Rattle.xs_ccheck.proofs.Kept.{keeps_on, resolves_on}
+use Rattle.xs_ccheck.proofs.Stmts.{block_done, effect_done, if_done, more_done}
 use Rattle.xs_ccheck.proofs.resolve_stmts.+stmt.Goals as goal
 
 pub stmt-returns-in_ok-inner-in-Block : goal.stmt-returns-in_ok-inner-in-Block
@@ -26,11 +26,11 @@ stmt-returns-in_ok-inner-in-Block t c =
     let read : stmts names scope (stmts_of (map plain_stmt body.items)) ≡ Ok (record { tree = trees_in one c.in_ok-inner-in-Block.inner; scope = within }) =
     ap (λ xs. stmts names scope (stmts_of (map plain_stmt xs))) (sym c.as_slice.ensures.value) ∙ found.means in
     let left : behind ≡ behind_block scope within =
-    c.forget_behind.ensures ∙ ap (λ n. record { variables = take n within.variables; slots = within.slots; entered = within.entered; in_boot = within.in_boot }) (ap length c.locals-known.ensures) in
+    c.forget_behind.ensures ∙ ap (λ n. knowing n within) (ap length c.locals-known.ensures) in
     let all : stmt names scope (plain_stmt c.args.s.now) ≡ done behind (Block (trees_in one c.in_ok-inner-in-Block.inner)) =
     ap (stmt names scope) here ∙ block_done names scope within line (stmts_of (map plain_stmt body.items)) (trees_in one c.in_ok-inner-in-Block.inner) read
     ∙ ap (λ s. done s (Block (trees_in one c.in_ok-inner-in-Block.inner))) (sym left) in
-    done_from tree_in c.done.result c.args.nodes.now one c.done.new.nodes behind _ found.keeps
+    resolves_on (done_in tree_in behind) HasNode c.done.result c.args.nodes.now one c.done.new.nodes _ found.keeps
     (subst (λ r. GivesStmt c.done.result one c.done.new.nodes behind r) (sym all) (c.done.ensures behind))
 
 pub stmt-returns-in_ok-x-in-Effect : goal.stmt-returns-in_ok-x-in-Effect
@@ -44,7 +44,7 @@ stmt-returns-in_ok-x-in-Effect t c =
     let here : plain_stmt c.args.s.now ≡ syntax.Effect line (plain e) = ap plain_stmt c.in-Effect.is ∙ plain_stmt-Effect line e in
     let all : stmt names scope (plain_stmt c.args.s.now) ≡ done scope (Forget (tree_in one c.in_ok-x-in-Effect.x.node)) =
     ap (stmt names scope) here ∙ effect_done names scope line (plain e) _ (ap (λ vs. expr vs (plain e)) (sym c.locals.ensures) ∙ found.means) in
-    done_from tree_in c.done-in-Effect.result c.args.nodes.now one c.done-in-Effect.new.nodes scope _ found.keeps
+    resolves_on (done_in tree_in scope) HasNode c.done-in-Effect.result c.args.nodes.now one c.done-in-Effect.new.nodes _ found.keeps
     (subst (λ r. GivesStmt c.done-in-Effect.result one c.done-in-Effect.new.nodes scope r) (sym all) (c.done-in-Effect.ensures scope))
 
 pub stmt-returns-in_ok-branch-in-If : goal.stmt-returns-in_ok-branch-in-If
@@ -66,7 +66,7 @@ stmt-returns-in_ok-branch-in-If t c =
     ∙ if_done names scope behind line (plain test) (plain_stmt then_do.value) _ (tree_in two c.in_ok-branch-in-If.branch) (ap (λ vs. expr vs (plain test)) (sym c.locals-in-If.ensures) ∙ x.means) holds (ap (λ s. stmt names scope (plain_stmt s)) (sym c.deref.ensures) ∙ branch.means) in
     let moved : done behind (If (tree_in two c.in_ok-x-in-If.x.node) (tree_in two c.in_ok-branch-in-If.branch) (Block NoTrees)) ≡ stmt names scope (plain_stmt c.args.s.now) =
     ap (λ t. done behind (If t (tree_in two c.in_ok-branch-in-If.branch) (Block NoTrees))) (branch.keeps.tree c.in_ok-x-in-If.x.node x.below) ∙ sym all in
-    done_from tree_in c.conditional.result c.args.nodes.now two c.conditional.new.nodes behind _ (keeps_on c.args.nodes.now one two x.keeps branch.keeps)
+    resolves_on (done_in tree_in behind) HasNode c.conditional.result c.args.nodes.now two c.conditional.new.nodes _ (keeps_on c.args.nodes.now one two x.keeps branch.keeps)
     (subst (λ r. GivesStmt c.conditional.result two c.conditional.new.nodes behind r) moved (c.conditional.ensures behind))
 
 pub stmts-returns : goal.stmts-returns
@@ -84,5 +84,5 @@ stmts-returns t c =
     ∙ more_done names scope c.stmt.new.scope behind (plain_stmt c.in-Some.first.now) (stmts_of (map plain_stmt c.in-Some.rest.now)) (tree_in one c.in_ok-x.x) (trees_in two c.in_ok-xs.xs) first.means more.means in
     let moved : Ok (record { tree = MoreTrees (tree_in two c.in_ok-x.x) (trees_in two c.in_ok-xs.xs); scope = behind }) ≡ stmts names scope (stmts_of (map plain_stmt c.args.body.now)) =
     ap (λ t. Ok (record { tree = MoreTrees t (trees_in two c.in_ok-xs.xs); scope = behind })) (more.keeps.tree c.in_ok-x.x first.below) ∙ sym all in
-    done_from trees_in c.more_stmts.result c.args.nodes.now two c.more_stmts.new.nodes behind _ (keeps_on c.args.nodes.now one two first.keeps more.keeps)
+    resolves_on (done_in trees_in behind) HasNode c.more_stmts.result c.args.nodes.now two c.more_stmts.new.nodes _ (keeps_on c.args.nodes.now one two first.keeps more.keeps)
     (subst (λ r. GivesStmts c.more_stmts.result two c.more_stmts.new.nodes behind r) moved (c.more_stmts.ensures behind))

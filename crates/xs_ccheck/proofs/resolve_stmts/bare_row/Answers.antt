@@ -1,13 +1,12 @@
 use Rattle.std.proofs.Common.{◌≡◌, ◌∙◌, ap, subst}
 use Rattle.std.specs.Prelude.{[]}
 use Rattle.xs_ccheck.specs.Arena.{row_of}
-use Rattle.xs_ccheck.specs.Growth.{tree_in, trees_in}
-use Rattle.xs_ccheck.specs.ResolvingStmts.{GivesStmt}
+use Rattle.xs_ccheck.specs.Growth.{HasNode, tree_in, trees_in}
+use Rattle.xs_ccheck.specs.ResolvingStmts.{done_in, GivesStmt}
 use Rattle.xs_ccheck.specs.Tree.{ApiRow, Forget, NoTrees}
 use Rattle.xs_ccheck.specs.Typing.{done}
 use Rattle.xs_ccheck.proofs.Growing.{row_same}
-use Rattle.xs_ccheck.proofs.Kept.{keeps_on}
-use Rattle.xs_ccheck.proofs.Stmts.{done_from}
+use Rattle.xs_ccheck.proofs.Kept.{keeps_on, resolves_on}
 use Rattle.xs_ccheck.proofs.resolve_stmts.bare_row.Goals as goal
 
 pub returns : goal.returns
@@ -17,5 +16,5 @@ returns c = λ scope.
     let two = c.add-2.new.self in
     let same : tree_in two c.in_ok-row.row ≡ ApiRow (row_of [] c.args.row) NoTrees =
     c.in_ok-row.ensures.tree ∙ ap (λ r. ApiRow r (trees_in one c.in_ok-none.none)) (row_same [] one.texts.items c.args.row c.requires) ∙ ap (ApiRow (row_of [] c.args.row)) c.in_ok-none.ensures.trees in
-    done_from tree_in c.done.result old two c.done.new.nodes scope _ (keeps_on old one two c.in_ok-none.ensures.keeps c.in_ok-row.ensures.keeps)
+    resolves_on (done_in tree_in scope) HasNode c.done.result old two c.done.new.nodes _ (keeps_on old one two c.in_ok-none.ensures.keeps c.in_ok-row.ensures.keeps)
     (subst (λ t. GivesStmt c.done.result two c.done.new.nodes scope (done scope (Forget t))) same (c.done.ensures scope))

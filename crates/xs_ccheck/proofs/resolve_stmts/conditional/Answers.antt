@@ -1,10 +1,9 @@
 use Rattle.std.proofs.Common.{◌≡◌, ◌∙◌, ap, subst}
-use Rattle.xs_ccheck.specs.Growth.{tree_in}
-use Rattle.xs_ccheck.specs.ResolvingStmts.{GivesStmt}
+use Rattle.xs_ccheck.specs.Growth.{HasNode, tree_in}
+use Rattle.xs_ccheck.specs.ResolvingStmts.{done_in, GivesStmt}
 use Rattle.xs_ccheck.specs.Tree.{Block, If, NoTrees}
 use Rattle.xs_ccheck.specs.Typing.{done}
-use Rattle.xs_ccheck.proofs.Kept.{keeps_on}
-use Rattle.xs_ccheck.proofs.Stmts.{done_from}
+use Rattle.xs_ccheck.proofs.Kept.{keeps_on, resolves_on}
 use Rattle.xs_ccheck.proofs.resolve_stmts.conditional.Goals as goal
 
 pub returns : goal.returns
@@ -18,5 +17,5 @@ returns c = λ scope.
     ap (λ t. If t (tree_in two c.args.branch) (tree_in two c.in_ok-nothing.nothing)) (keeps.tree c.args.test c.requires.test_in)
     ∙ ap (λ t. If (tree_in old c.args.test) t (tree_in two c.in_ok-nothing.nothing)) (keeps.tree c.args.branch c.requires.branch_in)
     ∙ ap (If (tree_in old c.args.test) (tree_in old c.args.branch)) nothing in
-    done_from tree_in c.done.result old two c.done.new.nodes scope _ keeps
+    resolves_on (done_in tree_in scope) HasNode c.done.result old two c.done.new.nodes _ keeps
     (subst (λ t. GivesStmt c.done.result two c.done.new.nodes scope (done scope t)) same (c.done.ensures scope))

@@ -2,7 +2,7 @@ use Rattle.std.proofs.Common.{rules, arith, ap}
 use Rattle.std.proofs.lemmas.Grind.{common_steps}
 use Rattle.xs_csyn.specs.View.{found, found_all}
 use Rattle.xs_csyn.specs.Exprs.{Found, FoundAll, expr, climb, list_from}
-use Rattle.xs_csyn.proofs.Turns.{one_more, deeper}
+use Rattle.xs_base.proofs.Turns.{one_more, deeper}
 use Rattle.xs_csyn.proofs.exprs.+expr.Goals as goal
 
 pub expr-returns-in-Whole-clause-read : goal.expr-returns-in-Whole-clause-read

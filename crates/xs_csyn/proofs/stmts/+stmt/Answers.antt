@@ -4,7 +4,7 @@ use Rattle.std.proofs.lemmas.Grind.{common_steps}
 use Rattle.xs_csyn.specs.Input.{sees, sees_key}
 use Rattle.xs_csyn.specs.Stmts.{stmt, parts_from}
 use Rattle.xs_csyn.specs.View.{plain_stmts}
-use Rattle.xs_csyn.proofs.Turns.{one_more, deeper}
+use Rattle.xs_base.proofs.Turns.{one_more, deeper}
 use Rattle.xs_csyn.proofs.stmts.+stmt.Goals as goal
 
 pub parts-returns-then-eat : goal.parts-returns-then-eat

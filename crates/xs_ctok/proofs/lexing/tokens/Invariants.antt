@@ -1,6 +1,6 @@
 use Rattle.std.proofs.Common.{◌≡◌, ◌+◌, ◌≤◌, drop}
 use Rattle.xs_ctok.specs.Lexemes.{start}
-use Rattle.xs_ctok.specs.Tokens.{with_front}
+use Rattle.xs_base.specs.Reading.{with_front}
 use Rattle.xs_ctok.proofs.LexemeSteps.{tokens_from}
 use Rattle.xs_ctok.proofs.lexing.tokens.Given as goal
 

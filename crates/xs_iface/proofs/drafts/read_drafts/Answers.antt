@@ -1,6 +1,6 @@
 use Rattle.std.proofs.Common.{◌≡◌, [], ◌∷◌, ◌++◌, ◌+◌, ◌∙◌, arith, rules}
 use Rattle.xs_iface.specs.Iface.{draft_of}
-use Rattle.xs_iface.proofs.Collecting.{next_gives}
+use Rattle.xs_base.proofs.Collecting.{next_gives}
 use Rattle.xs_iface.proofs.drafts.read_drafts.Goals as goal
 
 pub loop-part-preserved : goal.loop-part-preserved

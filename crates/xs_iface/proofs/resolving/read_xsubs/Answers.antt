@@ -1,6 +1,6 @@
 use Rattle.std.proofs.Common.{◌≡◌, [], ◌∷◌, ◌++◌, ◌+◌, ◌∙◌, arith, rules}
 use Rattle.xs_iface.specs.Iface.{xsub_of}
-use Rattle.xs_iface.proofs.Collecting.{next_gives}
+use Rattle.xs_base.proofs.Collecting.{next_gives}
 use Rattle.xs_iface.proofs.resolving.read_xsubs.Goals as goal
 
 pub loop-draft-preserved : goal.loop-draft-preserved

@@ -1,5 +1,5 @@
 use Rattle.std.proofs.Common.{◌≡◌, ◌≤◌, length}
-use Rattle.xs_script.specs.Fronts.{with_front}
+use Rattle.xs_base.specs.Reading.{with_front}
 use Rattle.xs_script.specs.Lex.{tokens_from}
 use Rattle.xs_script.proofs.lexing.tokens.Given as goal
 

@@ -1,5 +1,5 @@
 use Rattle.std.proofs.Common.{◌≡◌, drop}
-use Rattle.xs_script.specs.Fronts.{with_front}
+use Rattle.xs_base.specs.Reading.{with_front}
 use Rattle.xs_script.specs.Script.{script_of, commands_from}
 use Rattle.xs_script.specs.View.{said_all}
 use Rattle.xs_script.proofs.script.commands.Given as goal

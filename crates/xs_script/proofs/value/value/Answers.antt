@@ -3,7 +3,7 @@ use Rattle.std.proofs.lemmas.Grind.{common_steps}
 use Rattle.xs_script.specs.Value as spec
 use Rattle.xs_script.specs.Value.{turns}
 use Rattle.xs_script.specs.Partial.{partial_of}
-use Rattle.xs_script.proofs.Turns.{one_more}
+use Rattle.xs_base.proofs.Turns.{one_more}
 use Rattle.xs_script.proofs.value.value.Goals as goal
 use Rattle.xs_script.proofs.value.value.Goals.{in-None+in_ok-partial-in-None, in-Some+in-Some-pop_open+in_ok-partial-in-Some-pop_open}
 
