@@ -1,6 +1,5 @@
 -- One command: both definitions tell the same of it, and leave what fits together.
-use Rattle.std.proofs.Common.{◌≡◌, ℕ, ℤ, ◌+◌, ◌≤◌, arith, false, List, [], ◌++◌, length, Option, Some, None, refl, sym, ap, subst, ◌∙◌, length-append}
-use Rattle.std.specs.Prelude.{⊤}
+use Rattle.std.proofs.Common.{◌≡◌, ℕ, ℤ, ◌+◌, ◌≤◌, arith, false, List, [], ◌++◌, length, Option, refl, sym, ap, subst, ◌∙◌, length-append}
 use Rattle.xs_api.specs.declared.api.Frame.{Frame}
 use Rattle.xs_api.specs.declared.api.Operand.{Operand}
 use Rattle.xs_api.specs.declared.api.Registered.{Registered}

@@ -1,17 +1,14 @@
 -- The text that is written for an XS file, read and typed, is the code that the law is about.
 use Rattle.std.proofs.Common.{◌≡◌, ℕ, Bool, true, false, List, [], ◌∷◌, Option, None, Some, refl, sym, ap, ◌∙◌, subst}
-use Rattle.std.specs.Option.{option_map, option_or}
-use Rattle.std.specs.Prelude.{Result, Ok, Err, if◌then◌else◌}
+use Rattle.std.specs.Option.{option_map}
+use Rattle.std.specs.Prelude.{Result, Ok, if◌then◌else◌}
 use Rattle.xs_base.proofs.Choices.{none_of_both}
 use Rattle.xs_base.proofs.Stages.{bound}
 use Rattle.xs_base.specs.Reading.{◌>>=◌, Gives, collect, not_built_in}
-use Rattle.xs_base.specs.declared.fault.Fault.{Fault}
 use Rattle.xs_base.specs.declared.fault.Refuse.{Refuse}
-use Rattle.xs_base.specs.declared.place.FileOf.TheVariants.{Text, Xs}
+use Rattle.xs_base.specs.declared.place.FileOf.TheVariants.{Xs}
 use Rattle.xs_base.specs.declared.place.Line.{Line}
-use Rattle.xs_csyn.specs.Files.{file_of}
 use Rattle.xs_ctok.specs.Lexemes.{is_passed_line}
-use Rattle.xs_csyn.specs.Tree.{FileTree}
 use Rattle.xs_iface.proofs.Sums.{module_gives_sums}
 use Rattle.xs_iface.specs.declared.xsub.Module.{Module}
 use Rattle.xs_iface.specs.Iface.{draft_of, first_fault, module_from, module_of, module_with, name_fault, xsub_of}

@@ -13,7 +13,7 @@ use Rattle.xs_machine.specs.Cmean.{meaning, meaning_all}
 use Rattle.xs_api.specs.Rows.{counted_rows, with_mortal}
 use Rattle.xs_machine.specs.State.{State, Done, Stop}
 use Rattle.xs_ccheck.specs.Tree.{SvNewMortal, SvSetIv, StSet, XsReturn, Variable, Convert, Tree, Trees, MoreTrees}
-use Rattle.xs_api.specs.World.{Cells, World, cell_at, is_read_only, may_make, with_cells, with_new, with_value}
+use Rattle.xs_api.specs.World.{Cells, World, cell_at, is_read_only, may_make, with_cells, with_value}
 use Rattle.xs_values.specs.declared.kind.Kind.TheVariants.{I32, I64}
 use Rattle.xs_values.specs.declared.plain.Plain.TheVariants.{Undef, Int}
 use Rattle.xs_values.specs.declared.trap.Trap.{Trap}

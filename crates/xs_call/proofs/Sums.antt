@@ -1,5 +1,5 @@
 -- A sum of terms: what its tree means is what is declared of it, and its number is one that an `int` holds.
-use Rattle.std.proofs.Common.{◌≡◌, ℕ, zero, suc, ℤ, pos, ◌<◌, arith, List, [], ◌∷◌, ◌++◌, map, length, get_or, refl, sym, ◌∙◌, subst}
+use Rattle.std.proofs.Common.{◌≡◌, ℕ, ℤ, pos, ◌<◌, arith, List, [], ◌∷◌, ◌++◌, map, length, get_or, refl, sym, ◌∙◌, subst}
 use Rattle.std.proofs.lemmas.List.{get_or-map, get_or_append_left, length-map}
 use Rattle.std.proofs.lemmas.Int.{ints}
 use Rattle.std.specs.Prelude.{slice_index_or, Result, Ok, Err}

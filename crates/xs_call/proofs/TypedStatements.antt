@@ -1,7 +1,6 @@
 -- The statements of the intended tree, list by list: each becomes the code that it is meant to be.
-use Rattle.std.proofs.Common.{◌≡◌, ℕ, ◌+◌, ◌≤◌, ◌^◌, true, false, cond, List, [], ◌∷◌, ◌++◌, codes, map, length, fold, pos, nat_lt, slice_get, Some, None, Ok, refl, ap, ◌∙◌, arith}
+use Rattle.std.proofs.Common.{◌≡◌, ℕ, ◌+◌, ◌≤◌, ◌^◌, true, false, cond, List, [], ◌∷◌, ◌++◌, codes, map, length, fold, pos, nat_lt, slice_get, Some, None, refl, ap, ◌∙◌, arith}
 use Rattle.std.proofs.lemmas.Bool.Decides.{nat_tests}
-use Rattle.std.proofs.lemmas.Int.{ints}
 use Rattle.xs_csyn.specs.declared.tree.BinaryOp.TheVariants as c
 use Rattle.xs_csyn.specs.declared.tree.PerlForm.TheVariants as form
 use Rattle.xs_csyn.specs.Tree as syntax
@@ -26,7 +25,7 @@ use Rattle.xs_stub.specs.Intended.{call_of, declared_param, int_argument, int_ty
 use Rattle.xs_stub.specs.Stub.{joined_names, name_or_nothing}
 use Rattle.xs_values.proofs.Wrapping.{wrapped_value-held}
 use Rattle.xs_values.specs.declared.kind.Kind.TheVariants.{I32, I64, U64}
-use Rattle.xs_values.specs.Numbers.{IsInRange, wrapped}
+use Rattle.xs_values.specs.Numbers.{wrapped}
 use Rattle.xs_call.specs.GlueCode.{assign_int, assign_scalar, block_of, declarations, inputs, int_literal, nothing_done, registrations, row_done, row_of, sum_on, sum_tree, term_tree, trees_of}
 use Rattle.xs_call.proofs.Numbers.{in_range}
 use Rattle.xs_call.proofs.TypedNames.{Known, PlacedFrom, Unknown, int_at, int_local, known_at, scalar_at, no_interface_word, not_reserved, unknown_after}

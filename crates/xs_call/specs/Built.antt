@@ -2,7 +2,6 @@
 use Rattle.std.specs.Option.{option_map, option_or}
 use Rattle.std.specs.Prelude.{ℕ, Bool, false, List, [], ◌∷◌, Option, None, Some, Result, if◌then◌else◌}
 use Rattle.xs_base.specs.declared.fault.Fault.{Fault}
-use Rattle.xs_base.specs.declared.place.FileOf.{FileOf}
 use Rattle.xs_base.specs.declared.place.FileOf.TheVariants.{Xs}
 use Rattle.xs_base.specs.declared.place.Line.{Line}
 use Rattle.xs_ctok.specs.Lexemes.{is_passed_line}

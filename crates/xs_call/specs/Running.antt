@@ -10,7 +10,7 @@ use Rattle.xs_machine.specs.Machine.{Mach, booted, called, settled}
 use Rattle.xs_api.specs.Rows.{with_mortal}
 use Rattle.xs_ccheck.specs.Tree.{Code}
 use Rattle.xs_machine.specs.Machine.{with_world}
-use Rattle.xs_api.specs.World.{Cells, World, cell_at, live_of, may_make, with_cells, with_new}
+use Rattle.xs_api.specs.World.{Cells, World, cell_at, live_of, may_make}
 use Rattle.xs_script.specs.ValueText.{value_text_of}
 use Rattle.xs_values.specs.declared.plain.Plain.TheVariants.{Int}
 use Rattle.xs_values.specs.declared.trap.Trap.{Trap}

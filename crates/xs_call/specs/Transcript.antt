@@ -1,7 +1,7 @@
 -- The lines of a transcript: what a script's caller is told of each command.
 use Rattle.std.specs.Fmt.{decimal}
 use Rattle.std.specs.List.{concat}
-use Rattle.std.specs.Prelude.{ℕ, ◌+◌, ◌==◌, List, [], ◌∷◌, ◌++◌, length, position, codes, Option, None, Some}
+use Rattle.std.specs.Prelude.{ℕ, ◌==◌, List, [], ◌∷◌, ◌++◌, length, position, codes, Option, None, Some}
 use Rattle.xs_call.specs.declared.calls.CallCommand.{CallCommand}
 use Rattle.xs_script.specs.ValueText.{quoted_text}
 use Rattle.xs_stub.specs.Stub.{placed}
