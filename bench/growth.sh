@@ -4,8 +4,8 @@
 set -eu
 top=$(cd "$(dirname "${BASH_SOURCE[0]}")/.." && pwd)
 command -v valgrind >/dev/null || { echo "growth: valgrind is missing" >&2; exit 127; }
-"$top/xsubpp" call "$top/examples/add.xs" "$top/examples/add.txt" >/dev/null
 program=$top/crates/xsubpp/out/xsubpp
+[ -x "$program" ] || { echo "growth: the program is not built: ./build proves and links it" >&2; exit 1; }
 
 room=$(mktemp -d)
 trap 'rm -rf "$room"' EXIT
@@ -27,11 +27,15 @@ instructions() {
     valgrind --tool=callgrind --callgrind-out-file="$room/out" "$program" "$@" 2>&1 >/dev/null | sed -n 's/.*Collected : \([0-9]*\).*/\1/p'
 }
 
-tell() {
+report() {
+    if [ -z "$2" ] || [ -z "$3" ]; then
+        echo "growth: valgrind has counted nothing for $1" >&2
+        exit 1
+    fi
     echo "$1: $2 and $3 instructions, $(awk "BEGIN { printf \"%.1f\", $3 / $2 }") times as many"
 }
 
 for n in 100 2000; do module "$n" >"$room/$n.xs"; done
 for n in 1000 10000; do calls "$n" >"$room/$n.txt"; done
-tell "compile of 100 and of 2,000 XSUBs" "$(instructions compile "$room/100.xs")" "$(instructions compile "$room/2000.xs")"
-tell "call of 1,000 and of 10,000 calls" "$(instructions call "$top/examples/add.xs" "$room/1000.txt")" "$(instructions call "$top/examples/add.xs" "$room/10000.txt")"
+report "compile of 100 and of 2,000 XSUBs" "$(instructions compile "$room/100.xs")" "$(instructions compile "$room/2000.xs")"
+report "call of 1,000 and of 10,000 calls" "$(instructions call "$top/examples/add.xs" "$room/1000.txt")" "$(instructions call "$top/examples/add.xs" "$room/10000.txt")"

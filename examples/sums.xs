@@ -2,6 +2,7 @@
 #include "EXTERN.h"
 #include "perl.h"
 #include "XSUB.h"
+#include "xsubpp.h"
 
 MODULE = Sums		PACKAGE = Sums		PREFIX = sums_
 

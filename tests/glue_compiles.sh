@@ -1,5 +1,5 @@
 #!/usr/bin/env bash
-# The glue text of each example with a C part is C that gcc takes against perl's own headers. Where perl, its headers or gcc are
+# The glue text of each example with a C part is C that gcc accepts against perl's own headers. Where perl, its headers or gcc are
 # missing there is nothing to check, and the script says so.
 set -u
 top=$(cd "$(dirname "${BASH_SOURCE[0]}")/.." && pwd)
@@ -19,10 +19,8 @@ room=$(mktemp -d)
 trap 'rm -rf "$room"' EXIT
 failed=0
 for name in sums context many; do
-    # perl.h has this macro for perl's own sources alone, and ExtUtils::ParseXS writes it into each file.
     if "$top/xsubpp" compile "$top/examples/$name.xs" >"$room/$name.c" &&
-        gcc -fsyntax-only -Werror=implicit-function-declaration "${flags[@]}" "-I$headers" \
-            "-DnewXS_deffile(name,function)=Perl_newXS_deffile(aTHX_ name,function)" "$room/$name.c"; then
+        gcc -fsyntax-only -Werror=implicit-function-declaration "${flags[@]}" "-I$headers" "-I$top/include" "$room/$name.c"; then
         echo "glue_compiles: $name.xs: the glue text compiles"
     else
         echo "glue_compiles: $name.xs: FAILED"

@@ -7,7 +7,7 @@ use Rattle.std.specs.Option.{is_some}
 use Rattle.std.specs.Prelude.{cond, slice_set}
 use Rattle.std.proofs.Math.ListN.{length-set}
 use Rattle.xs_api.specs.declared.heap.Cell.{Cell}
-use Rattle.xs_api.specs.declared.heap.TheConstants.{MOST_NAMES}
+use Rattle.xs_api.specs.Limits.{most_names}
 use Rattle.xs_values.specs.declared.plain.Plain.{Plain}
 use Rattle.xs_api.specs.Heaps.{HeapHolds, Lowers, Sets}
 use Rattle.xs_api.specs.World.{Cells, cell_at, is_uncounted, live_of, living, lowered}
@@ -15,10 +15,12 @@ use Rattle.xs_api.specs.World.{Cells, cell_at, is_uncounted, live_of, living, lo
 abbrev pub one_of : Option Cell → ℕ
 one_of c = cond (is_some c) 1 0
 
-living-drop-set : (cells : Cells) (k n : ℕ) (v : Option Cell) → k ≤ n → n < length cells → living (drop k (slice_set cells n v)) + one_of (cell_at n cells) ≡ living (drop k cells) + one_of v
+living-drop-set : (cells : Cells) (k n : ℕ) (v : Option Cell) → k ≤ n → n < length cells → living (drop k (slice_set cells n v)) + one_of (cell_at n cells)
+    ≡ living (drop k cells) + one_of v
 living-drop-set cells k n v le h =
     let at : n ≡ k + (n - k) = omega (arith, le) in
-    let moved : drop k (slice_set cells n v) ≡ slice_set (drop k cells) (n - k) v = ap (λ i. drop k (slice_set cells i v)) at ∙ drop-set-add k cells (n - k) v in
+    let moved : drop k (slice_set cells n v) ≡ slice_set (drop k cells) (n - k) v = ap (λ i. drop k (slice_set cells i v)) at
+    ∙ drop-set-add k cells (n - k) v in
     let here : cell_at n cells ≡ cell_at (n - k) (drop k cells) = ap (λ i. cell_at i cells) at ∙ sym (get_or-drop k cells (n - k) None) in
     ap (λ l. living l + one_of (cell_at n cells)) moved
     ∙ ap (λ c. living (slice_set (drop k cells) (n - k) v) + one_of c) here
@@ -76,10 +78,12 @@ holds_kept cells live n c v h e = record {
 }
 
 -- a scalar goes
-pub holds_gone : (cells : Cells) (live n : ℕ) (c : Cell) → HeapHolds cells live → cell_at n cells ≡ Some c → is_uncounted n ≡ false → (1 ≤ live) × HeapHolds (slice_set cells n None) (live - 1)
+pub holds_gone : (cells : Cells) (live n : ℕ) (c : Cell) → HeapHolds cells live → cell_at n cells ≡ Some c → is_uncounted n ≡ false
+    → (1 ≤ live) × HeapHolds (slice_set cells n None) (live - 1)
 holds_gone cells live n c h e u =
     let at : 5 ≤ n = counted_at n u (not_none cells n c h.none e) in
-    let fall : living (drop 5 (slice_set cells n None)) + one_of (Some c) ≡ living (drop 5 cells) + 0 = ap (λ x. living (drop 5 (slice_set cells n None)) + one_of x) (sym e) ∙ living-drop-set cells 5 n None at (cell_within cells n c e) in (
+    let fall : living (drop 5 (slice_set cells n None)) + one_of (Some c) ≡ living (drop 5 cells) + 0 =
+    ap (λ x. living (drop 5 (slice_set cells n None)) + one_of x) (sym e) ∙ living-drop-set cells 5 n None at (cell_within cells n c e) in (
       omega (arith, fall, h.counted),
       record {
         none = set_elsewhere cells n None h.none (omega (arith, at));
@@ -90,7 +94,8 @@ holds_gone cells live n c h e u =
     )
 
 -- a new scalar
-pub holds_made : (cells : Cells) (live : ℕ) (c : Cell) → HeapHolds cells live → length cells < MOST_NAMES → (live < MOST_NAMES) × HeapHolds (cells ++ Some c ∷ []) (live + 1)
+pub holds_made : (cells : Cells) (live : ℕ) (c : Cell) → HeapHolds cells live → length cells < most_names
+    → (live < most_names) × HeapHolds (cells ++ Some c ∷ []) (live + 1)
 holds_made cells live c h less = (
   omega (arith, less, h.counted, count_by-le-length is_some (drop 5 cells), length-drop 5 cells),
   record {
@@ -113,11 +118,13 @@ holds_set old new live n p true h s = let P : Cells → Type 0 = λ x. HeapHolds
 holds_set old new live n p false h s = let P : Cells → Type 0 = λ x. HeapHolds x live in subst P (sym s.1) h
 
 -- another count
-pub holds_recounted : (old new : Cells) (live n k : ℕ) (c : Cell) → HeapHolds old live → cell_at n old ≡ Some c → new ≡ slice_set old n (Some (record { value = c.value; count = k })) → HeapHolds new live
+pub holds_recounted : (old new : Cells) (live n k : ℕ) (c : Cell) → HeapHolds old live → cell_at n old ≡ Some c
+    → new ≡ slice_set old n (Some (record { value = c.value; count = k })) → HeapHolds new live
 holds_recounted old new live n k c h e s = let P : Cells → Type 0 = λ x. HeapHolds x live in subst P (sym s) (holds_kept old live n c _ h e)
 
 -- an owner of several is taken
-pub lowers_kept : (old now new : Cells) (n k j : ℕ) (c : Cell) → old ≡ now → cell_at n old ≡ Some c → k ≡ c.count → 2 ≤ k → j ≡ k - 1 → new ≡ slice_set old n (Some (record { value = c.value; count = j })) → Lowers n now true new
+pub lowers_kept : (old now new : Cells) (n k j : ℕ) (c : Cell) → old ≡ now → cell_at n old ≡ Some c → k ≡ c.count → 2 ≤ k → j ≡ k - 1
+    → new ≡ slice_set old n (Some (record { value = c.value; count = j })) → Lowers n now true new
 lowers_kept old now new n k j c same e count two less sets =
     let P : Cells → Type 0 = λ x. Lowers n x true new in
     subst P same (c, e, sets ∙ ap (slice_set old n) (sym (lowered_kept c.count j c.value (omega (arith, count, two)) (omega (arith, count, less)))))

@@ -1,3 +1,3 @@
 pub mod Cells
-pub mod Cuts
-pub mod Temps
+pub mod StackCuts
+pub mod FreedTemps

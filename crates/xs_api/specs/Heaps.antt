@@ -5,14 +5,15 @@ use Rattle.xs_values.specs.declared.plain.Plain.{Plain}
 use Rattle.xs_api.specs.declared.heap.Cell.{Cell}
 use Rattle.xs_api.specs.declared.heap.HeapFail.{HeapFail}
 use Rattle.xs_api.specs.declared.heap.HeapFail.TheVariants.{Large, Memory}
-use Rattle.xs_api.specs.declared.heap.TheConstants.{MOST_NAMES}
+use Rattle.xs_api.specs.Limits.{most_names}
 use Rattle.xs_api.specs.World.{Cells, cell_at, live_of, may_make, with_lowered, with_new, with_value}
 
--- what holds of each heap: no scalar has the name 0, the immortals are there, and the living scalars are counted
+-- what holds of each heap: no scalar has the name 0, the immortals are there, and the living
+-- scalars are counted
 pub record HeapHolds (cells : Cells) (live : ℕ) : Type 0 where
   pub none : cell_at 0 cells ≡ None
   pub long : 5 ≤ length cells
-  pub short : length cells ≤ MOST_NAMES
+  pub short : length cells ≤ most_names
   pub counted : live ≡ live_of cells
 
 -- the value of a scalar, where it is there

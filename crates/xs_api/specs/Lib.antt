@@ -1,6 +1,7 @@
+pub mod Limits
 pub mod World
 pub mod Effects
 pub mod Heaps
 pub mod Rows
-pub mod Places
-pub mod Views
+pub mod ArgumentList
+pub mod PerlViews

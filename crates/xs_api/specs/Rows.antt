@@ -1,5 +1,5 @@
 -- The rows of the API on counted scalars and Perl's stacks. Each is a function of its operands.
-use Rattle.std.specs.Prelude.{ℕ, suc, ◌+◌, ◌-◌, ℤ, pos, negsuc, cond, nat_le, nat_lt, nat_eq, List, [], ◌∷◌, ◌++◌, length, take, drop, Option, Some, None, slice_get, slice_set, codes}
+use Rattle.std.specs.Prelude.{ℕ, suc, ◌+◌, ◌-◌, ℤ, pos, negsuc, if◌then◌else◌, nat_le, nat_lt, nat_eq, List, [], ◌∷◌, ◌++◌, length, take, drop, Option, Some, None, slice_get, slice_set, codes}
 use Rattle.xs_values.specs.declared.kind.Kind.TheVariants.{I64}
 use Rattle.xs_values.specs.declared.plain.Plain.{Plain}
 use Rattle.xs_values.specs.declared.plain.Plain.TheVariants as plain
@@ -12,10 +12,9 @@ use Rattle.xs_api.specs.declared.api.Frame.{Frame}
 use Rattle.xs_api.specs.declared.api.Operand.{Operand}
 use Rattle.xs_api.specs.declared.api.Operand.TheVariants.{Num, Scalar, Void}
 use Rattle.xs_api.specs.declared.heap.Cell.{Cell}
-use Rattle.xs_api.specs.declared.stacks.TheConstants.{MOST_ITEMS}
-use Rattle.xs_ccheck.specs.Tree.{Row, Entry, StRead, SvIv, SvNewMortal, SvSetIv, StSet, XsReturn, XsReturnYes, XsEnd, CroakUsage, NewXs}
-use Rattle.xs_api.specs.Effects.{Effect, Gives, Ends, Prims}
-use Rattle.xs_api.specs.World.{World, cell_at, cut_args, gone, is_read_only, may_make, sweep, with_cells, with_new, with_temps, with_value}
+use Rattle.xs_api.specs.Limits.{most_items}
+use Rattle.xs_api.specs.Effects.{Effect, Gives, Ends}
+use Rattle.xs_api.specs.World.{World, cell_at, cut_args, gone, is_read_only, may_make, with_cells, with_new, with_temps, with_value}
 
 abbrev pub trapped : Trap → Frame → World → Effect World
 trapped t f w = Ends (Traps t) f w
@@ -40,38 +39,44 @@ with_mortal p w = with_temps (length w.cells ∷ w.temps) (with_cells (with_new 
 
 -- a new scalar with a value that is a temporary
 abbrev pub new_mortal : Plain → Frame → World → Effect World
-new_mortal p f w = cond (may_make w.cells) (Gives (Scalar (Some (length w.cells))) f (with_mortal p w)) (trapped trap.Large f w)
+new_mortal p f w =
+    if may_make w.cells then Gives (Scalar (Some (length w.cells))) f (with_mortal p w)
+    else trapped trap.Large f w
 
 abbrev pub read_only_croak : List ℕ
 read_only_croak = codes "Modification of a read-only value attempted"
 
 abbrev pub sv_setiv : Option ℕ → Number → Frame → World → Effect World
-sv_setiv s v f w = needs s f w (λ n c. cond (is_read_only n) (Ends (Croaks read_only_croak) f w) (Gives Void f (with_cells (with_value n c (plain.Int (wrapped_value I64 v.value)) w.cells) w)))
+sv_setiv s v f w =
+    needs s f w (λ n c. if is_read_only n then Ends (Croaks read_only_croak) f w
+    else Gives Void f
+    (with_cells (with_value n c (plain.Int (wrapped_value I64 v.value)) w.cells) w))
 
 -- ---- the argument list
 
 abbrev pub with_args : List ℕ → World → World
-with_args args w = record { cells = w.cells; args = args; top = w.top; marks = w.marks; temps = w.temps; scopes = w.scopes; names = w.names }
+with_args args w = record w { args = args }
 
-abbrev pub read_place : Option ℕ → Frame → World → Effect World
-read_place None f w = trapped trap.Bounds f w
-read_place (Some n) f w = Gives (Scalar (Some n)) f w
+abbrev pub read_item_at : Option ℕ → Frame → World → Effect World
+read_item_at None f w = trapped trap.Bounds f w
+read_item_at (Some n) f w = Gives (Scalar (Some n)) f w
 
--- the item at a place counted from the base
+-- the item at an index counted from the base
 abbrev pub st_read : ℤ → Frame → World → Effect World
-st_read (pos i) f w = read_place (slice_get w.args (f.base + i)) f w
+st_read (pos i) f w = read_item_at (slice_get w.args (f.base + i)) f w
 st_read (negsuc i) f w = trapped trap.Bounds f w
 
--- Writes an item at a place of the list. One past the list appends, and further is out of bounds.
-abbrev pub put_place : ℕ → ℕ → Frame → World → (World → Effect World) → Effect World
-put_place at n f w go =
-    cond (nat_lt at (length w.args)) (go (with_args (slice_set w.args at n) w))
-    (cond (nat_eq at (length w.args))
-    (cond (nat_lt at MOST_ITEMS) (go (with_args (w.args ++ n ∷ []) w)) (trapped trap.Large f w))
-    (trapped trap.Bounds f w))
+-- Writes an item at an index of the list. One past the list appends, and further is out of bounds.
+abbrev pub put_item_at : ℕ → ℕ → Frame → World → (World → Effect World) → Effect World
+put_item_at at n f w go =
+    if nat_lt at (length w.args) then go (with_args (slice_set w.args at n) w)
+    else if nat_eq at (length w.args)
+    then if nat_lt at most_items then go (with_args (w.args ++ n ∷ []) w)
+    else trapped trap.Large f w
+    else trapped trap.Bounds f w
 
 abbrev pub st_write : ℤ → ℕ → Frame → World → Effect World
-st_write (pos i) n f w = put_place (f.base + i) n f w (λ w1. Gives (Scalar (Some n)) f w1)
+st_write (pos i) n f w = put_item_at (f.base + i) n f w (λ w1. Gives (Scalar (Some n)) f w1)
 st_write (negsuc i) n f w = trapped trap.Bounds f w
 
 abbrev pub st_set : Option ℕ → ℤ → Frame → World → Effect World
@@ -81,19 +86,22 @@ st_set s i f w = needs s f w (λ n c. st_write i n f w)
 
 abbrev pub pop_mark : List ℕ → Frame → World → Effect World
 pop_mark [] f w = trapped trap.Scope f w
-pop_mark (mark ∷ marks) f w = Gives Void (record { called = f.called; base = mark; items = w.top - mark }) (record { cells = w.cells; args = w.args; top = w.top; marks = marks; temps = w.temps; scopes = w.scopes; names = w.names })
+pop_mark (mark ∷ marks) f w =
+    Gives Void (record f { base = mark; items = w.top - mark }) (record w { marks = marks })
 
 -- returns what stands from the base up to a top
 abbrev pub returned_to : ℕ → Frame → World → Effect World
 returned_to top f w = Ends (Returns (take (top - f.base) (drop f.base w.args))) f (cut_args top w)
 
 abbrev pub xsreturn : ℤ → Frame → World → Effect World
-xsreturn (pos n) f w = cond (nat_le (f.base + n) (length w.args)) (returned_to (f.base + n) f w) (trapped trap.Bounds f w)
+xsreturn (pos n) f w =
+    if nat_le (f.base + n) (length w.args) then returned_to (f.base + n) f w
+    else trapped trap.Bounds f w
 xsreturn (negsuc n) f w = trapped trap.Bounds f w
 
 -- puts one item at the base and returns it
 abbrev pub return_one : ℕ → Frame → World → Effect World
-return_one n f w = put_place f.base n f w (λ w1. returned_to (suc f.base) f w1)
+return_one n f w = put_item_at f.base n f w (λ w1. returned_to (suc f.base) f w1)
 
 -- the name of yes
 abbrev pub yes : ℕ
@@ -103,25 +111,9 @@ abbrev pub usage_text : List ℕ → List ℕ → List ℕ
 usage_text called text = codes "Usage: " ++ called ++ codes "(" ++ text ++ codes ")"
 
 abbrev pub register : List ℕ → ℕ → Frame → World → Effect World
-register name function f w = Gives Void f (record { cells = w.cells; args = w.args; top = w.top; marks = w.marks; temps = w.temps; scopes = w.scopes; names = record { name = name; function = function } ∷ w.names })
+register name function f w =
+    Gives Void f (record w { names = record { name = name; function = function } ∷ w.names })
 
--- ---- the table
-
--- each row at its operands; operands of another number or sort trap Kind
-abbrev pub row_at : Row → List Operand → Frame → World → Effect World
-row_at Entry [] f w = pop_mark w.marks f w
-row_at StRead (Num i ∷ []) f w = st_read i.value f w
-row_at SvIv (Scalar s ∷ []) f w = sv_iv s f w
-row_at SvNewMortal [] f w = new_mortal plain.Undef f w
-row_at SvSetIv (Scalar s ∷ Num v ∷ []) f w = sv_setiv s v f w
-row_at StSet (Scalar s ∷ Num i ∷ []) f w = st_set s i.value f w
-row_at XsReturn (Num n ∷ []) f w = xsreturn n.value f w
-row_at XsReturnYes [] f w = return_one yes f w
-row_at XsEnd [] f w = returned_to w.top f w
-row_at (CroakUsage text) [] f w = Ends (Croaks (usage_text f.called text)) f w
-row_at (NewXs name function) [] f w = register name function f w
-row_at _ _ f w = trapped trap.Kind f w
-
--- the rows on counted scalars
-abbrev pub counted_rows : Prims World
-counted_rows = record { row = row_at; cut = sweep }
+-- the croak of a call with the wrong number of arguments
+abbrev pub croak_usage : List ℕ → Frame → World → Effect World
+croak_usage text f w = Ends (Croaks (usage_text f.called text)) f w

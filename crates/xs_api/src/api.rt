@@ -1,9 +1,8 @@
 //! The rows of Perl's API, on counted scalars and Perl's stacks.
-ghost use Rattle.std.specs.Prelude.{◌≡◌, ◌-◌, ◌≤ℤ◌, ◌^◌, [], IfOk, Err, MatchResult, drop, neg_ℤ, pos, slice_index_or, take};
-ghost use Rattle.xs_ccheck.specs.Arena.{row_of};
-ghost use Rattle.xs_api.specs.Places.{Puts, place_of};
+ghost use Rattle.std.specs.Prelude.{◌≡◌, ◌-◌, ◌≤ℤ◌, ◌^◌, IfOk, Err, MatchResult, drop, neg_ℤ, pos, take};
+ghost use Rattle.xs_api.specs.ArgumentList.{Puts, item_index};
 ghost use Rattle.xs_api.specs.Rows as rows;
-ghost use Rattle.xs_api.specs.Views.{Does, Finds, Lacks, MakesTemporary, Sweeps, world_of};
+ghost use Rattle.xs_api.specs.PerlViews.{Does, Finds, Lacks, MakesTemporary, Sweeps, world_of};
 ghost use Rattle.xs_api.specs.World as world;
 ghost use Rattle.xs_api.specs.World.{free_above};
 
@@ -11,13 +10,13 @@ use crate::heap::{Heap, HeapFail};
 use crate::stacks::{Depths, MOST_ITEMS, Stacks, pop_top, push_top};
 use std::alloc::Global;
 use xs_base::{Bytes, Items, Memory};
-use xs_ccheck::{RowNode, Typed};
 use xs_values::{CInt, Kind, Name, Plain, Trap, to_iv, wrap};
 
 /// The name of yes.
 const YES: Name = 2;
 
-/// What an expression of C has: a number, a scalar's pointer, or nothing for `void`. A variable may be unset.
+/// What an expression of C has: a number, a scalar's pointer, or nothing for `void`. A variable may
+/// be unset.
 #[derive(Clone, Copy, Debug)]
 pub enum Operand {
     Unset,
@@ -68,7 +67,7 @@ impl From<Trap> for Halt {
 }
 
 impl From<Stop> for Halt {
-    ghost use Rattle.xs_api.specs.Views.{halt_of};
+    ghost use Rattle.xs_api.specs.PerlViews.{halt_of};
 
     ghost from_gives = { λ s e. e ≡ halt_of s };
 
@@ -85,7 +84,7 @@ impl From<Stop> for Halt {
 pub struct Frame {
     /// The name under which it was called.
     pub called: Bytes,
-    /// The place of its first argument.
+    /// The index of its first argument.
     pub base: u32,
     /// How many arguments it has.
     pub items: u32,
@@ -145,7 +144,8 @@ impl Perl {
 
     // The name and the value of a scalar that a row needs.
     fn needed(&self, s: Option<Name>) -> Result<(Name, &Plain), Trap>
-        ensures { MatchResult result (λ found. Finds s (world_of self.now) found.0 found.1.now) (λ trap. Lacks s (world_of self.now) trap) }
+        ensures { MatchResult result (λ found. Finds s (world_of self.now) found.0 found.1.now)
+            (λ trap. Lacks s (world_of self.now) trap) }
     {
         let Some(n) = s else {
             return Err(Trap::Null);
@@ -156,9 +156,10 @@ impl Perl {
         }
     }
 
-    // `SvIV`: the number of a scalar as an IV.
-    fn sv_iv(&self, s: Option<Name>, frame: &Frame) -> Result<Operand, Halt>
-        ensures { Does (rows.sv_iv s frame.now (world_of self.now)) result frame.now (world_of self.now) }
+    /// `SvIV`: the number of a scalar as an IV (perlapi, "SV Handling").
+    pub fn sv_iv(&self, s: Option<Name>, frame: &Frame) -> Result<Operand, Halt>
+        ensures { Does (rows.sv_iv s frame.now (world_of self.now)) result frame.now
+            (world_of self.now) }
     {
         let (_, value) = self.needed(s)?;
         Ok(Operand::Num(CInt::from_iv(to_iv(value))))
@@ -178,17 +179,21 @@ impl Perl {
         }
     }
 
-    // A new scalar that is a temporary: `sv_newmortal` where the value is undef.
-    fn new_mortal(&mut self, value: Plain, frame: &Frame) -> Result<Operand, Halt>
-        ensures { Does (rows.new_mortal value frame.now (world_of self.old)) result frame.now (world_of self.new) }
+    /// A new scalar that is a temporary: `sv_newmortal` where the value is undef (perlguts,
+    /// "Reference Counts and Mortality").
+    pub fn new_mortal(&mut self, value: Plain, frame: &Frame) -> Result<Operand, Halt>
+        ensures { Does (rows.new_mortal value frame.now (world_of self.old)) result frame.now
+            (world_of self.new) }
     {
         let n = self.make_temporary(value)?;
         Ok(Operand::Scalar(Some(n)))
     }
 
-    // `sv_setiv`: sets a scalar to a number.
-    fn sv_setiv(&mut self, s: Option<Name>, v: CInt, frame: &Frame) -> Result<Operand, Halt>
-        ensures { Does (rows.sv_setiv s v frame.now (world_of self.old)) result frame.now (world_of self.new) }
+    /// `sv_setiv`: sets a scalar to a number, as an IV. A read-only scalar croaks (perlguts,
+    /// "Working with SVs").
+    pub fn sv_setiv(&mut self, s: Option<Name>, v: CInt, frame: &Frame) -> Result<Operand, Halt>
+        ensures { Does (rows.sv_setiv s v frame.now (world_of self.old)) result frame.now
+            (world_of self.new) }
     {
         let (n, _) = self.needed(s)?;
         if 1 <= n && n <= 3 {
@@ -205,11 +210,12 @@ impl Perl {
         Ok(Operand::Void)
     }
 
-    // `ST(i)`: the item at a place counted from the base.
-    fn st_read(&self, i: CInt, frame: &Frame) -> Result<Operand, Halt>
-        ensures { Does (rows.st_read i.value frame.now (world_of self.now)) result frame.now (world_of self.now) }
+    /// `ST(i)`: the item at an index counted from the base (perlxs, "The Argument Stack").
+    pub fn st_read(&self, i: CInt, frame: &Frame) -> Result<Operand, Halt>
+        ensures { Does (rows.st_read i.value frame.now (world_of self.now)) result frame.now
+            (world_of self.now) }
     {
-        let Some(at) = place(frame.base, i.value(), self.stacks.args.len()) else {
+        let Some(at) = index_of(frame.base, i.value(), self.stacks.args.len()) else {
             return trapped(Trap::Bounds);
         };
         match self.stacks.args.get(at) {
@@ -218,21 +224,24 @@ impl Perl {
         }
     }
 
-    // `ST(i) = s`: writes a scalar at a place counted from the base. One past the list it appends.
-    fn st_set(&mut self, s: Option<Name>, i: CInt, frame: &Frame) -> Result<Operand, Halt>
-        ensures { Does (rows.st_set s i.value frame.now (world_of self.old)) result frame.now (world_of self.new) }
+    /// `ST(i) = s`: writes a scalar at an index counted from the base. One past the list it
+    /// appends.
+    pub fn st_set(&mut self, s: Option<Name>, i: CInt, frame: &Frame) -> Result<Operand, Halt>
+        ensures { Does (rows.st_set s i.value frame.now (world_of self.old)) result frame.now
+            (world_of self.new) }
     {
         let (n, _) = self.needed(s)?;
-        let Some(at) = place(frame.base, i.value(), self.stacks.args.len()) else {
+        let Some(at) = index_of(frame.base, i.value(), self.stacks.args.len()) else {
             return trapped(Trap::Bounds);
         };
         put_item(&mut self.stacks.args, at, n)?;
         Ok(Operand::Scalar(Some(n)))
     }
 
-    // `dXSARGS`: takes the mark, which is the base.
-    fn entry(&mut self, frame: &mut Frame) -> Result<Operand, Halt>
-        ensures { Does (rows.pop_mark (world_of self.old).marks frame.old (world_of self.old)) result frame.new (world_of self.new) }
+    /// `dXSARGS`: pops the mark, which is the base (perlapi, "Stack Manipulation Macros").
+    pub fn entry(&mut self, frame: &mut Frame) -> Result<Operand, Halt>
+        ensures { Does (rows.pop_mark (world_of self.old).marks frame.old (world_of self.old))
+            result frame.new (world_of self.new) }
     {
         match pop_top(&mut self.stacks.marks) {
             None => trapped(Trap::Scope),
@@ -246,7 +255,8 @@ impl Perl {
 
     // Returns what stands from the base up to a top.
     fn return_to(&mut self, top: u32, frame: &Frame) -> Result<Operand, Halt>
-        ensures { Does (rows.returned_to top frame.now (world_of self.old)) result frame.now (world_of self.new) }
+        ensures { Does (rows.returned_to top frame.now (world_of self.old)) result frame.now
+            (world_of self.new) }
     {
         let items = items_between(
             self.alloc,
@@ -258,19 +268,21 @@ impl Perl {
         Err(Halt::Way(Abrupt::Returns(items)))
     }
 
-    // `XSRETURN(n)`: returns the first items from the base.
-    fn xsreturn(&mut self, n: CInt, frame: &Frame) -> Result<Operand, Halt>
-        ensures { Does (rows.xsreturn n.value frame.now (world_of self.old)) result frame.now (world_of self.new) }
+    /// `XSRETURN(n)`: returns the first items from the base.
+    pub fn xsreturn(&mut self, n: CInt, frame: &Frame) -> Result<Operand, Halt>
+        ensures { Does (rows.xsreturn n.value frame.now (world_of self.old)) result frame.now
+            (world_of self.new) }
     {
-        match place(frame.base, n.value(), self.stacks.args.len()) {
+        match index_of(frame.base, n.value(), self.stacks.args.len()) {
             None => trapped(Trap::Bounds),
             Some(top) => self.return_to(top as u32, frame),
         }
     }
 
-    // `XSRETURN_YES`: returns the immortal yes.
-    fn xsreturn_yes(&mut self, frame: &Frame) -> Result<Operand, Halt>
-        ensures { Does (rows.return_one rows.yes frame.now (world_of self.old)) result frame.now (world_of self.new) }
+    /// `XSRETURN_YES`: returns the immortal yes.
+    pub fn xsreturn_yes(&mut self, frame: &Frame) -> Result<Operand, Halt>
+        ensures { Does (rows.return_one rows.yes frame.now (world_of self.old)) result frame.now
+            (world_of self.new) }
     {
         put_item(&mut self.stacks.args, frame.base as usize, YES)?;
         self.return_to(frame.base + 1, frame)
@@ -278,21 +290,32 @@ impl Perl {
 
     /// The end of an XS function: returns all from the base to the top.
     pub fn xs_end(&mut self, frame: &Frame) -> Result<Operand, Halt>
-        ensures { Does (rows.returned_to (world_of self.old).top frame.now (world_of self.old)) result frame.now (world_of self.new) }
+        ensures { Does (rows.returned_to (world_of self.old).top frame.now (world_of self.old))
+            result frame.now (world_of self.new) }
     {
         self.return_to(self.stacks.top, frame)
     }
 
-    // `newXS_deffile`: registers a function under a Perl name.
-    fn register(&mut self, name: &[u8], function: u32, frame: &Frame) -> Result<Operand, Halt>
-        ensures { Does (rows.register name.now function frame.now (world_of self.old)) result frame.now (world_of self.new) }
+    /// `newXS_deffile`: registers a function under a Perl name.
+    pub fn register(&mut self, name: &[u8], function: u32, frame: &Frame) -> Result<Operand, Halt>
+        ensures { Does (rows.register name.now function frame.now (world_of self.old)) result
+            frame.now (world_of self.new) }
     {
         let name = Bytes::from_slice(self.alloc, name)?;
         push_top(&mut self.names, Registered { name, function })?;
         Ok(Operand::Void)
     }
 
-    // Takes one owner of a scalar. The immortals are passed over.
+    /// `croak_xs_usage`: croaks with how the function is used, the text of its parameters.
+    pub fn croak_usage(&self, params: &[u8], frame: &Frame) -> Result<Operand, Halt>
+        ensures { Does (rows.croak_usage params.now frame.now (world_of self.now)) result frame.now
+            (world_of self.now) }
+    {
+        let text = usage_text(self.alloc, &frame.called, params)?;
+        Err(Halt::Way(Abrupt::Croaks(text)))
+    }
+
+    // Lowers the count of a scalar. The immortals are passed over.
     fn lower(&mut self, n: Name) -> Result<(), Trap>
         ensures done { Sweeps (world.lower n (world_of self.old)) result (world_of self.new) }
         ensures temps { self.new.stacks ≡ self.old.stacks }
@@ -328,57 +351,14 @@ impl Perl {
         self.stacks.cut_to(d);
         Ok(())
     }
-
-    /// A row at its operands.
-    pub fn row(
-        &mut self,
-        row: RowNode,
-        typed: &Typed,
-        operands: &[Operand],
-        frame: &mut Frame,
-    ) -> Result<Operand, Halt>
-        ensures { Does (rows.row_at (row_of typed.now.texts.items row) operands.now frame.old (world_of self.old)) result frame.new (world_of self.new) }
-    {
-        match (row, operands) {
-            (RowNode::Entry, []) => self.entry(frame),
-            (RowNode::StRead, [Operand::Num(i)]) => self.st_read(*i, frame),
-            (RowNode::SvIv, [Operand::Scalar(s)]) => self.sv_iv(*s, frame),
-            (RowNode::SvNewMortal, []) => self.new_mortal(Plain::Undef, frame),
-            (RowNode::SvSetIv, [Operand::Scalar(s), Operand::Num(v)]) => self.sv_setiv(
-                *s, *v, frame,
-            ),
-            (RowNode::StSet, [Operand::Scalar(s), Operand::Num(i)]) => self.st_set(*s, *i, frame),
-            (RowNode::XsReturn, [Operand::Num(n)]) => self.xsreturn(*n, frame),
-            (RowNode::XsReturnYes, []) => self.xsreturn_yes(frame),
-            (RowNode::CroakUsage(text), []) => {
-                let text = usage_text(self.alloc, &frame.called, text_at(&typed.texts, text))?;
-                Err(Halt::Way(Abrupt::Croaks(text)))
-            }
-            (RowNode::NewXs(name, function), []) => self.register(
-                text_at(&typed.texts, name),
-                function,
-                frame,
-            ),
-            _ => trapped(Trap::Kind),
-        }
-    }
 }
 
-// A text by its place.
-fn text_at(texts: &Vec<Bytes>, at: u32) -> &[u8]
-    ensures { result.now ≡ slice_index_or texts.now.items at [] }
-{
-    match texts.get(at as usize) {
-        None => &[],
-        Some(text) => text.as_slice(),
-    }
-}
-
-// The place of an item that is counted from the base, None where it is below 0 or further than one past the list.
-fn place(base: u32, i: i128, len: usize) -> Option<usize>
+// The index of an item that is counted from the base, None where it is below 0 or further than one
+// past the list.
+fn index_of(base: u32, i: i128, len: usize) -> Option<usize>
     requires low { neg_ℤ (pos (2 ^ 63)) ≤ℤ i }
     requires high { i ≤ℤ pos (2 ^ 64 - 1) }
-    ensures { result ≡ place_of base i len }
+    ensures { result ≡ item_index base i len }
 {
     if i < 0 {
         return None;
@@ -391,7 +371,7 @@ fn place(base: u32, i: i128, len: usize) -> Option<usize>
     }
 }
 
-// Writes an item at a place of the list, one past which it appends.
+// Writes an item at an index of the list, one past which it appends.
 fn put_item(args: &mut Vec<Name>, at: usize, n: Name) -> Result<(), Stop>
     ensures { Puts args.old.items at n result args.new.items }
 {
@@ -407,7 +387,7 @@ fn put_item(args: &mut Vec<Name>, at: usize, n: Name) -> Result<(), Stop>
     }
 }
 
-// The items from one place of the list up to another.
+// The items from one index of the list up to another.
 fn items_between(
     alloc: Global,
     args: &[Name],
@@ -419,9 +399,9 @@ fn items_between(
     if base >= args.len() || top <= base {
         return Ok(Items::new(alloc));
     }
-    let behind = &args[base..];
-    let count = (top - base).min(behind.len());
-    let items = Vec::from_slice(alloc, &behind[..count])?;
+    let after = &args[base..];
+    let count = (top - base).min(after.len());
+    let items = Vec::from_slice(alloc, &after[..count])?;
     Ok(Items::from_vec(items))
 }
 

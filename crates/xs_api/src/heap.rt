@@ -11,7 +11,8 @@ use std::marker::Model;
 use xs_base::{Bytes, Memory};
 use xs_values::{Name, Plain};
 
-/// How many names there are at most: 4,000,000 scalars that are made in one run, and those of 0 to 4.
+/// How many names there are at most: 4,000,000 scalars that are made in one run, and those of 0 to
+/// 4.
 const MOST_NAMES: usize = 4_000_005;
 
 /// A living scalar: what it holds, and how many owners it has.
@@ -109,7 +110,7 @@ impl Heap {
         set_value(&mut self.cells, n as usize, value)
     }
 
-    /// Takes one owner of a scalar, which goes with the last one, and answers false where it is gone.
+    /// Lowers the count of a scalar, which is released at 0, and answers false where it is gone.
     pub fn lower(&mut self, n: Name) -> bool
         requires { is_uncounted n ≡ false }
         ensures { Lowers n self.old result self.new }
@@ -141,7 +142,9 @@ fn count_at(cells: &Vec<Option<Cell>>, at: usize) -> Option<u64>
 // Sets the count of a scalar that is there.
 fn set_count(cells: &mut Vec<Option<Cell>>, at: usize, count: u64)
     requires { IsSome (cell_at at cells.old.items) }
-    ensures { (c : Cell) → cell_at at cells.old.items ≡ Some c → cells.new.items ≡ slice_set cells.old.items at (Some (record { value = c.value; count = count })) }
+    ensures { (c : Cell) → cell_at at cells.old.items ≡ Some c
+        → cells.new.items
+        ≡ slice_set cells.old.items at (Some (record { value = c.value; count = count })) }
 {
     if let Some(cell) = &mut cells[at] {
         cell.count = count;

@@ -1,13 +1,13 @@
 //! Perl's stacks: arguments, marks, temporaries and scopes.
 ghost use Rattle.std.specs.Prelude.{◌≡◌, ◌+◌, ◌++◌, ◌≤◌, ◌∷◌, [], MatchOption, OnOk, length, reverse, take, vec_len};
-ghost use Rattle.xs_api.specs.declared.stacks.TheConstants.{MOST_ITEMS};
+ghost use Rattle.xs_api.specs.Limits.{most_items};
 ghost use Rattle.xs_api.specs.World.{cut_stack};
 
 use std::alloc::Global;
 use xs_base::Memory;
 use xs_values::Name;
 
-/// How many items the argument list may have.
+/// How many items the argument stack may have.
 pub const MOST_ITEMS: usize = 1_000_000;
 
 /// How high the stacks are.
@@ -30,7 +30,7 @@ pub struct Stacks {
     pub temps: Vec<Name>,
     /// Each open scope with the number of temporaries that it keeps.
     pub scopes: Vec<u64>,
-    ghost short: { length args.items ≤ MOST_ITEMS },
+    ghost short: { length args.items ≤ most_items },
 }
 
 impl Stacks {
@@ -53,7 +53,13 @@ impl Stacks {
 
     /// How high the stacks are.
     pub fn depths(&self) -> Depths
-        ensures { result ≡ record { args = self.now.top; marks = vec_len self.now.marks; temps = vec_len self.now.temps; scopes = vec_len self.now.scopes } }
+        ensures { result
+            ≡ record {
+              args = self.now.top;
+              marks = vec_len self.now.marks;
+              temps = vec_len self.now.temps;
+              scopes = vec_len self.now.scopes;
+            } }
     {
         Depths {
             args: self.top,
@@ -65,10 +71,12 @@ impl Stacks {
 
     /// Pushes a mark, and arguments above it. The list is cut to the top first.
     pub fn push_call(&mut self, args: &[Name]) -> Result<(), Memory>
-        requires { self.old.top + length args.now ≤ MOST_ITEMS }
-        ensures args { OnOk result (self.new.args.items ≡ take self.old.top self.old.args.items ++ args.now) }
+        requires { self.old.top + length args.now ≤ most_items }
+        ensures args { OnOk result (self.new.args.items
+            ≡ take self.old.top self.old.args.items ++ args.now) }
         ensures top { OnOk result (self.new.top ≡ self.old.top + length args.now) }
-        ensures marks { OnOk result (reverse self.new.marks.items ≡ self.old.top ∷ reverse self.old.marks.items) }
+        ensures marks { OnOk result (reverse self.new.marks.items
+            ≡ self.old.top ∷ reverse self.old.marks.items) }
         ensures temps { self.new.temps ≡ self.old.temps }
         ensures scopes { self.new.scopes ≡ self.old.scopes }
     {
@@ -95,9 +103,11 @@ impl Stacks {
     pub fn cut_to(&mut self, d: &Depths)
         ensures args { self.new.args.items ≡ take d.now.args self.old.args.items }
         ensures top { self.new.top ≡ d.now.args }
-        ensures marks { reverse self.new.marks.items ≡ cut_stack d.now.marks (reverse self.old.marks.items) }
+        ensures marks { reverse self.new.marks.items
+            ≡ cut_stack d.now.marks (reverse self.old.marks.items) }
         ensures temps { self.new.temps ≡ self.old.temps }
-        ensures scopes { reverse self.new.scopes.items ≡ cut_stack d.now.scopes (reverse self.old.scopes.items) }
+        ensures scopes { reverse self.new.scopes.items
+            ≡ cut_stack d.now.scopes (reverse self.old.scopes.items) }
     {
         self.cut_args(d.args);
         cut_top(&mut self.marks, d.marks);
@@ -122,8 +132,11 @@ pub fn push_top<T: Drop>(stack: &mut Vec<T>, x: T) -> Result<(), Memory>
 
 /// Takes the item on top of a stack.
 pub fn pop_top<T>(stack: &mut Vec<T>) -> Option<T>
-    ensures top { MatchOption result ((reverse stack.old.items ≡ []) × (reverse stack.new.items ≡ [])) (λ x. reverse stack.old.items ≡ x ∷ reverse stack.new.items) }
-    ensures len { MatchOption result (vec_len stack.new ≡ 0) (λ x. vec_len stack.new + 1 ≡ vec_len stack.old) }
+    ensures top { MatchOption result ((reverse stack.old.items ≡ [])
+        × (reverse stack.new.items ≡ [])) (λ x. reverse stack.old.items
+        ≡ x ∷ reverse stack.new.items) }
+    ensures len { MatchOption result (vec_len stack.new ≡ 0) (λ x. vec_len stack.new + 1
+        ≡ vec_len stack.old) }
 {
     stack.pop()
 }

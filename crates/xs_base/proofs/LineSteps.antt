@@ -1,7 +1,7 @@
 -- The lines of bytes, the first line first.
 use Rattle.std.proofs.Common.{◌≡◌, ℕ, ◌+◌, ◌<◌, ◌≤◌, ◌==◌, Bool, true, false, not, cond, nat_lt, List, [], ◌∷◌, ◌++◌, length, take, drop, None, Some, refl, ap, sym, ◌∙◌, arith, append_assoc, append-nil}
 use Rattle.std.specs.List.{slice_split, onto_first, position, position_or_len}
-use Rattle.xs_base.specs.declared.place.Line.{Line}
+use Rattle.xs_base.specs.declared.source.Line.{Line}
 use Rattle.xs_base.specs.Lines.{numbered}
 use Rattle.std.specs.Str.Lines.{lines, lines_of_parts, strip_carriage_return}
 use Rattle.std.proofs.lemmas.List.Splits.{slice_split_first}
@@ -48,22 +48,26 @@ unsplit : (xs : List ℕ) → length xs ≤ position_or_len is_end xs → slice_
 unsplit [] h = refl
 unsplit (x ∷ xs) h = unsplit_on (is_end x) x xs h (unsplit xs)
 
--- what stands behind the last byte 10
+-- what stands after the last byte 10
 pub lines_last : (xs : List ℕ) → position is_end xs ≡ None → lines xs ≡ cond (length xs == 0) [] (xs ∷ [])
 lines_last xs h =
     let p = (none_unless (nat_lt (position_or_len is_end xs) (length xs)) (position_or_len is_end xs) None h).0 in
     ap lines_of_parts (unsplit xs (grind (arith, p)))
 
 -- a line more
-pub line_told : (all : List Line) (number : ℕ) (rest text after : List ℕ) (n : ℕ) → position is_end rest ≡ Some n → text ≡ strip_carriage_return (take n rest) → after ≡ drop (n + 1) rest
+pub line_reported : (all : List Line) (number : ℕ) (rest text after : List ℕ) (n : ℕ) → position is_end rest ≡ Some n
+    → text ≡ strip_carriage_return (take n rest) → after ≡ drop (n + 1) rest
     → (all ++ record { number = number; text = text } ∷ []) ++ numbered (number + 1) (lines after) ≡ all ++ numbered number (lines rest)
-line_told all number rest text after n at is_text is_after =
+line_reported all number rest text after n at is_text is_after =
     append_assoc all _ _ ∙ rw (is_text, is_after) (ap (λ texts. all ++ numbered number texts) (sym (lines_first rest n at)))
 
 -- the last line, which has no end
-pub last_told : (all : List Line) (number : ℕ) (rest : List ℕ) → position is_end rest ≡ None → length rest == 0 ≡ false → all ++ record { number = number; text = rest } ∷ [] ≡ all ++ numbered number (lines rest)
-last_told all number rest at more = ap (λ texts. all ++ numbered number texts) (sym (lines_last rest at ∙ ap (λ b. cond b [] (rest ∷ [])) more))
+pub last_reported : (all : List Line) (number : ℕ) (rest : List ℕ) → position is_end rest ≡ None → length rest == 0 ≡ false
+    → all ++ record { number = number; text = rest } ∷ [] ≡ all ++ numbered number (lines rest)
+last_reported all number rest at more = ap (λ texts. all ++ numbered number texts) (sym (lines_last rest at ∙ ap (λ b. cond b [] (rest ∷ [])) more))
 
 -- no last line
-pub none_told : (all : List Line) (number : ℕ) (rest : List ℕ) → position is_end rest ≡ None → length rest == 0 ≡ true → all ≡ all ++ numbered number (lines rest)
-none_told all number rest at none = sym (ap (λ texts. all ++ numbered number texts) (lines_last rest at ∙ ap (λ b. cond b [] (rest ∷ [])) none) ∙ append-nil all)
+pub none_reported : (all : List Line) (number : ℕ) (rest : List ℕ) → position is_end rest ≡ None → length rest == 0 ≡ true
+    → all ≡ all ++ numbered number (lines rest)
+none_reported all number rest at none = sym (ap (λ texts. all ++ numbered number texts) (lines_last rest at ∙ ap (λ b. cond b [] (rest ∷ [])) none)
+    ∙ append-nil all)

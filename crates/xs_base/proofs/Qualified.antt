@@ -7,13 +7,13 @@ use Rattle.std.specs.Prelude.{if◌then◌else◌}
 use Rattle.xs_base.proofs.AllPass.{all-append, all-weaker}
 use Rattle.xs_base.specs.Names as names
 use Rattle.xs_base.specs.Names.{IsJoined, is_qualified_name, is_rest_of_name}
-use Rattle.xs_base.specs.Runs.{belongs}
-use Rattle.xs_base.specs.Scanning.{begins_word, is_digit, is_identifier, is_word_byte}
+use Rattle.xs_base.specs.ByteRuns.{belongs}
+use Rattle.xs_base.specs.Scanning.{begins_word, is_ascii_digit, is_identifier, is_word_byte}
 use Rattle.xs_base.specs.declared.names.NameByte.TheVariants.{First, Further, SecondColon}
-use Rattle.xs_base.specs.declared.runs.ByteClass.TheVariants.{Name}
+use Rattle.xs_base.specs.declared.byte_runs.ByteClass.TheVariants.{Name}
 
 pub first_in_word : (b : ℕ) → begins_word b ≡ true → is_word_byte b ≡ true
-first_in_word b h = or_left (begins_word b) (is_digit b) h
+first_in_word b h = or_left (begins_word b) (is_ascii_digit b) h
 
 -- ---- such names are joined identifiers
 
@@ -28,13 +28,15 @@ mutual
   first_joined [] h = absurd cc
   first_joined (b ∷ bs) h = by (begins_word b) refl (further_joined (b ∷ []) bs) h
     where
-      by : (t : Bool) → begins_word b ≡ t → (is_identifier (b ∷ []) ≡ true → is_rest_of_name Further bs ≡ true → IsJoined (b ∷ bs)) → (if t then is_rest_of_name Further bs else false) ≡ true → IsJoined (b ∷ bs)
+      by : (t : Bool) → begins_word b ≡ t → (is_identifier (b ∷ []) ≡ true → is_rest_of_name Further bs ≡ true → IsJoined (b ∷ bs))
+          → (if t then is_rest_of_name Further bs else false) ≡ true → IsJoined (b ∷ bs)
       by true e go g = go (and_from (begins_word b) true e refl) g
       by false e go g = absurd cc
 
   further_joined : (word bs : List ℕ) → is_identifier word ≡ true → is_rest_of_name Further bs ≡ true → IsJoined (word ++ bs)
   further_joined word [] i h = subst IsJoined (sym (append-nil word)) (names.one word i)
-  further_joined word (b ∷ bs) i h = by (is_word_byte b) (b == 58) refl refl (λ w. further_joined (word ++ b ∷ []) bs (identifier_longer word b i w)) (second_joined word bs i) h
+  further_joined word (b ∷ bs) i h = by (is_word_byte b) (b == 58) refl refl (λ w. further_joined (word ++ b ∷ []) bs (identifier_longer word b i w))
+      (second_joined word bs i) h
     where
       by : (t u : Bool) → is_word_byte b ≡ t → (b == 58) ≡ u → (is_word_byte b ≡ true → is_rest_of_name Further bs ≡ true → IsJoined ((word ++ b ∷ []) ++ bs))
           → (is_rest_of_name SecondColon bs ≡ true → IsJoined (word ++ 58 ∷ bs))
@@ -47,7 +49,8 @@ mutual
   second_joined word [] i h = absurd cc
   second_joined word (b ∷ bs) i h = by (b == 58) refl (first_joined bs) h
     where
-      by : (t : Bool) → (b == 58) ≡ t → (is_rest_of_name First bs ≡ true → IsJoined bs) → (if t then is_rest_of_name First bs else false) ≡ true → IsJoined (word ++ 58 ∷ b ∷ bs)
+      by : (t : Bool) → (b == 58) ≡ t → (is_rest_of_name First bs ≡ true → IsJoined bs) → (if t then is_rest_of_name First bs else false) ≡ true
+          → IsJoined (word ++ 58 ∷ b ∷ bs)
       by true e go g = subst (λ (c : ℕ). IsJoined (word ++ 58 ∷ c ∷ bs)) (sym (eqb-true b 58 e)) (names.more word i (go g))
       by false e go g = absurd cc
 

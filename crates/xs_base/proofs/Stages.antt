@@ -1,4 +1,4 @@
--- What a stage behind a stage came from.
+-- What a stage after a stage came from.
 use Rattle.std.proofs.Common.{◌≡◌, Result, Ok, Err, refl}
 use Rattle.xs_base.specs.Reading.{◌>>=◌}
 use Rattle.xs_base.specs.declared.fault.Fault.{Fault}

@@ -1,4 +1,4 @@
--- What a count of faults tells of one call.
+-- How a count of faults moves over one call.
 use Rattle.std.specs.Prelude.{ℕ, ◌+◌, ◌-◌, ◌^◌, ◌≤◌, min}
 
 -- one more, where a u64 holds it

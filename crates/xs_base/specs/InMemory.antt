@@ -3,7 +3,7 @@ use Rattle.std.specs.Prelude.{ℕ, ◌+◌, ◌-◌, ◌^◌, min, Bool, false, 
 use Rattle.std.specs.List.{list_any}
 use Rattle.std.specs.Str.{bytes_eq}
 use Rattle.xs_base.specs.Causes.{counted}
-use Rattle.xs_base.specs.Desks.{told_read}
+use Rattle.xs_base.specs.Desks.{reported_read}
 use Rattle.xs_base.specs.declared.desk.DeskFault.{DeskFault}
 use Rattle.xs_base.specs.declared.desk.DeskFault.TheVariants.{Failed}
 use Rattle.xs_base.specs.declared.mem_desk.HeldFile.{HeldFile}
@@ -30,13 +30,18 @@ failing_at call f = record f { failing = f.failing ++ call ∷ [] }
 abbrev pub is_listed : List ℕ → ℕ → Bool
 is_listed calls call = list_any (λ c. c == call) calls
 
--- whether the next call fails: it is listed, or nothing more can be taken
+-- whether the next call fails: it is listed, or there is no room
 abbrev pub call_fails : Failures → Bool → Bool
 call_fails f is_full = is_listed f.failing (counted f.calls) || is_full
 
 -- what is counted after that call
 abbrev pub after_call : Failures → Bool → Failures
-after_call f is_full = record f { calls = counted f.calls; failed = if call_fails f is_full then counted f.failed else f.failed }
+after_call f is_full =
+    record f {
+      calls = counted f.calls;
+      failed = if call_fails f is_full then counted f.failed
+          else f.failed;
+    }
 
 -- ---- the desk
 
@@ -50,9 +55,10 @@ abbrev pub held : List HeldFile → List ℕ → Option (List ℕ)
 held [] name = None
 held (file ∷ files) name = if bytes_eq file.name name then Some file.bytes else held files name
 
--- what a read of at most limit bytes answers, where memory is found
+-- what a read of at most limit bytes answers, where memory does not run out
 abbrev pub mem_read : MemFiles → List ℕ → ℕ → Result (List ℕ) DeskFault
-mem_read d name limit = if call_fails d.failures false then Err Failed else told_read (held d.held_files name) limit
+mem_read d name limit = if call_fails d.failures false then Err Failed
+    else reported_read (held d.held_files name) limit
 
 -- the desk after a read
 abbrev pub after_read : MemFiles → MemFiles
@@ -60,27 +66,30 @@ after_read d = record d { failures = after_call d.failures false }
 
 -- ---- the sink
 
--- A sink in memory: what it has taken, how many bytes it takes in a write and in all, and which writes fail.
+-- A sink in memory: what was written, how many bytes it accepts in a write and in all, and which
+-- writes fail.
 pub record MemBytes : Type 0 where
-  pub taken : List ℕ
+  pub written : List ℕ
   pub per_write : ℕ
   pub room : ℕ
   pub failures : Failures
 
--- whether nothing more can be taken
+-- whether there is no room
 abbrev pub is_full : MemBytes → Bool
-is_full s = s.room - length s.taken == 0
+is_full s = s.room - length s.written == 0
 
--- how many bytes of a piece a write takes
-abbrev pub taken_of : MemBytes → List ℕ → ℕ
-taken_of s piece = min (min s.per_write (length piece)) (s.room - length s.taken)
+-- how many bytes of a piece a write accepts
+abbrev pub written_of : MemBytes → List ℕ → ℕ
+written_of s piece = min (min s.per_write (length piece)) (s.room - length s.written)
 
 abbrev pub mem_write : MemBytes → List ℕ → Result ℕ SinkFault
-mem_write s piece = if call_fails s.failures (is_full s) then Err write.Failed else Ok (taken_of s piece)
+mem_write s piece = if call_fails s.failures (is_full s) then Err write.Failed
+    else Ok (written_of s piece)
 
 abbrev pub after_write : MemBytes → List ℕ → MemBytes
 after_write s piece =
     record s {
       failures = after_call s.failures (is_full s);
-      taken = if call_fails s.failures (is_full s) then s.taken else s.taken ++ take (taken_of s piece) piece;
+      written = if call_fails s.failures (is_full s) then s.written else s.written
+          ++ take (written_of s piece) piece;
     }

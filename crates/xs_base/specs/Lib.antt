@@ -7,4 +7,7 @@ pub mod Reading
 pub mod Scanning
 pub mod Names
 pub mod Readers
-pub mod Runs
+pub mod ByteRuns
+pub mod Faults
+pub mod FaultTexts
+pub mod Laws

@@ -12,17 +12,19 @@ is_rest_of_name First [] = false
 is_rest_of_name Further [] = true
 is_rest_of_name SecondColon [] = false
 is_rest_of_name First (b ∷ bs) = if begins_word b then is_rest_of_name Further bs else false
-is_rest_of_name Further (b ∷ bs) = if is_word_byte b then is_rest_of_name Further bs else (if b == 58 then is_rest_of_name SecondColon bs else false)
+is_rest_of_name Further (b ∷ bs) = if is_word_byte b then is_rest_of_name Further bs
+    else (if b == 58 then is_rest_of_name SecondColon bs else false)
 is_rest_of_name SecondColon (b ∷ bs) = if b == 58 then is_rest_of_name First bs else false
 
 -- whether a text is a qualified name
 abbrev pub is_qualified_name : List ℕ → Bool
 is_qualified_name text = is_rest_of_name First text
 
--- Identifiers joined by `::`. The law below tells that these are the qualified names.
+-- Identifiers joined by `::`. By a law of this crate these are the qualified names.
 pub data IsJoined : List ℕ → Type 0 where
   one : (word : List ℕ) → is_identifier word ≡ true → IsJoined word
-  more : (word : List ℕ) {rest : List ℕ} → is_identifier word ≡ true → IsJoined rest → IsJoined (word ++ 58 ∷ 58 ∷ rest)
+  more : (word : List ℕ) {rest : List ℕ} → is_identifier word ≡ true → IsJoined rest
+      → IsJoined (word ++ 58 ∷ 58 ∷ rest)
 
 -- whether a word is listed
 abbrev pub is_among : List (List ℕ) → List ℕ → Bool

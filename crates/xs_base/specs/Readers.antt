@@ -6,12 +6,13 @@ abbrev pub head_is : {A : Type 0} → (A → Bool) → List A → Bool
 head_is p [] = false
 head_is p (x ∷ xs) = p x
 
--- what stands behind the first one
+-- what stands after the first one
 abbrev pub tail : {A : Type 0} → List A → List A
 tail [] = []
 tail (x ∷ xs) = xs
 
--- What reading from an input comes to: what was read and the input that is left, or why there is no reading.
+-- What reading from an input comes to: what was read and the input that is left, or why there is no
+-- reading.
 abbrev pub Outcome : Type 0 → Type 0 → Type 0 → Type 0
 Outcome I E A = Result (A × I) E
 

@@ -1,10 +1,11 @@
--- A reader of the input gives a value or its first fault. Want of memory is the one answer that no definition tells.
+-- A reader of the input gives a value or its first fault. Out of memory is the one answer that no
+-- definition gives.
 use Rattle.std.specs.Prelude.{◌≡◌, ℕ, List, [], ◌∷◌, ◌++◌, Result, Ok, Err}
 use Rattle.xs_base.specs.declared.fault.Fault.{Fault}
 use Rattle.xs_base.specs.declared.fault.Refuse.{Refuse}
 use Rattle.xs_base.specs.declared.fault.Refuse.TheVariants as refuse
-use Rattle.xs_base.specs.declared.fault.TheConstants.{NOT_BUILT}
-use Rattle.xs_base.specs.declared.place.FileOf.{FileOf}
+use Rattle.xs_base.specs.declared.fault_codes.TheConstants.{NOT_BUILT}
+use Rattle.xs_base.specs.declared.source.FileOf.{FileOf}
 
 -- a fault in a file, at a line, with a code and a word
 abbrev pub fault_in : FileOf → ℕ → ℕ → List ℕ → Fault
@@ -14,7 +15,7 @@ fault_in file line code word = record { file = file; line = line; code = code; w
 abbrev pub not_built_in : FileOf → ℕ → Fault
 not_built_in file line = fault_in file line NOT_BUILT []
 
--- A call refuses for the reason that the definition gives, or for want of memory.
+-- A call refuses for the reason that the definition gives, or where memory runs out.
 abbrev pub Fails : {A : Type 0} → Refuse → Result A Fault → Type 0
 Fails refuse.Memory read = Unit {0}
 Fails (refuse.Fault fault) read = read ≡ Err fault
@@ -29,12 +30,12 @@ abbrev pub Gives : {A : Type 0} → Result A Refuse → Result A Fault → Type 
 Gives = GivesBy (λ a. a)
 
 infixl 10 ◌>>=◌
--- a stage behind a stage: the first fault decides
+-- a stage after a stage: the first fault decides
 abbrev pub ◌>>=◌ : {A B : Type 0} → Result A Fault → (A → Result B Fault) → Result B Fault
 (Ok a) >>= next = next a
 (Err fault) >>= next = Err fault
 
--- what is given, behind what stands before it
+-- what is given, after what stands before it
 abbrev pub with_front : {A E : Type 0} → List A → Result (List A) E → Result (List A) E
 with_front before (Ok after) = Ok (before ++ after)
 with_front before (Err e) = Err e

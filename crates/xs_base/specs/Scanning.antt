@@ -7,8 +7,8 @@ abbrev pub is_blank : ℕ → Bool
 is_blank b = b == 32 || b == 9
 
 -- a decimal digit
-abbrev pub is_digit : ℕ → Bool
-is_digit b = nat_le 48 b && nat_le b 57
+abbrev pub is_ascii_digit : ℕ → Bool
+is_ascii_digit b = nat_le 48 b && nat_le b 57
 
 -- a letter of either case
 abbrev pub is_letter : ℕ → Bool
@@ -20,39 +20,40 @@ begins_word b = is_letter b || b == 95
 
 -- a byte of an identifier, wherever it stands but in front
 abbrev pub is_word_byte : ℕ → Bool
-is_word_byte b = begins_word b || is_digit b
+is_word_byte b = begins_word b || is_ascii_digit b
 
--- An identifier (C standard) is one byte that begins a word, and word bytes behind it.
+-- An identifier (C standard) is one byte that begins a word, and word bytes after it.
 abbrev pub is_identifier : List ℕ → Bool
 is_identifier [] = false
 is_identifier (b ∷ bs) = begins_word b && list_all is_word_byte bs
 
--- a `0` with other bytes behind it
+-- a `0` with other bytes after it
 abbrev pub has_leading_zero : List ℕ → Bool
 has_leading_zero (a ∷ b ∷ bs) = a == 48
 has_leading_zero _ = false
 
--- decimal digits without a zero in front of others
+-- a decimal number: digits, one at least, without a zero in front of others
 abbrev pub is_decimal : List ℕ → Bool
-is_decimal word = list_all is_digit word && not (has_leading_zero word)
+is_decimal [] = false
+is_decimal (d ∷ ds) = list_all is_ascii_digit (d ∷ ds) && not (has_leading_zero (d ∷ ds))
 
 -- a text of blanks alone
 abbrev pub is_blank_line : List ℕ → Bool
 is_blank_line text = list_all is_blank text
 
--- what stands behind a byte that the text begins with
-abbrev pub after_byte : ℕ → List ℕ → Option (List ℕ)
-after_byte w [] = None
-after_byte w (b ∷ bs) = if b == w then Some bs else None
+-- what stands after a byte that the text begins with
+abbrev pub strip_byte : ℕ → List ℕ → Option (List ℕ)
+strip_byte w [] = None
+strip_byte w (b ∷ bs) = if b == w then Some bs else None
 
--- what stands behind a word that the text begins with
-abbrev pub after_word : List ℕ → List ℕ → Option (List ℕ)
-after_word [] text = Some text
-after_word (w ∷ ws) text = option_and_then (after_word ws) (after_byte w text)
+-- what stands after a word that the text begins with
+abbrev pub strip_prefix : List ℕ → List ℕ → Option (List ℕ)
+strip_prefix [] text = Some text
+strip_prefix (w ∷ ws) text = option_and_then (strip_prefix ws) (strip_byte w text)
 
 -- The text begins with a word.
-abbrev pub begins_with : List ℕ → List ℕ → Bool
-begins_with word text = is_some (after_word word text)
+abbrev pub starts_with : List ℕ → List ℕ → Bool
+starts_with word text = is_some (strip_prefix word text)
 
 -- the value of decimal digits
 abbrev pub value_of_digits : List ℕ → ℕ

@@ -23,7 +23,7 @@ impl Model for Bytes {
 }
 
 impl Bytes {
-    /// No bytes. This takes no memory.
+    /// No bytes. This allocates nothing.
     pub fn new(alloc: Global) -> Bytes
         ensures { result ≡ [] }
     {

@@ -22,9 +22,10 @@ pub enum DeskFault {
     Memory,
 }
 
-/// A place that files are read from. It may tell what it holds, and then what each read answers is known.
+/// A place that files are read from. It may report what it holds, and then the answer to each read
+/// is known.
 pub trait Desk {
-    /// What it holds, where it tells. No call changes this.
+    /// What it holds, where it reports that. No call changes this.
     ghost files: { Self → Option Files };
 
     /// How many reads have failed so far. The count stops at 2^64 - 1.
@@ -33,7 +34,7 @@ pub trait Desk {
     /// The bytes of the file of this name, where there are no more of them than `limit`.
     fn read(&mut self, name: &Bytes, limit: u32) -> Result<Bytes, DeskFault>
         ensures bound { IfOk result (λ bytes. length bytes ≤ limit) }
-        ensures told { ForSome (files self.old) (λ held. Reads (held name.now) limit result) }
+        ensures reported { ForSome (files self.old) (λ held. Reads (held name.now) limit result) }
         ensures same { files self.new ≡ files self.old }
         ensures cause { ReadCause (fault_count self.old) (fault_count self.new) result };
 

@@ -44,7 +44,7 @@ impl Failures {
         Ok(())
     }
 
-    /// Counts a call, and says whether it fails. One that can take nothing more does.
+    /// Counts a call, and gives whether it fails: it is listed, or the sink is full.
     pub fn next(&mut self, is_full: bool) -> bool
         ensures fails { result ≡ call_fails self.old is_full }
         ensures after { self.new ≡ after_call self.old is_full }

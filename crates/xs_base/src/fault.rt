@@ -3,14 +3,13 @@ ghost use Rattle.std.specs.Prelude.{◌≡◌, []};
 ghost use Rattle.xs_base.specs.Reading.{fault_in, not_built_in};
 ghost use Rattle.xs_base.specs.declared.fault.Refuse.TheVariants as refuse;
 
+use crate::fault_codes::NOT_BUILT;
 use crate::{Bytes, FileOf, Memory};
 use std::alloc::{AllocError, AllocFailed, Global};
 
-/// The code of a form that is not built yet.
-const NOT_BUILT: u16 = 999;
-
-/// A fault of the input: where it stands, the number of the refusal, and the word at fault. The line is 0 where the fault
-/// has no place in the file, and the word is empty where the refusal has none.
+/// A fault of the input: where it stands, the number of the refusal, and the word at fault. The
+/// line is 0 where the fault has no place in the file, and the word is empty where the refusal has
+/// none.
 #[derive(Debug, Drop)]
 pub struct Fault {
     pub file: FileOf,

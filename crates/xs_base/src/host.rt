@@ -1,5 +1,5 @@
 //! The edges of the program: the files of the system, and std's writers.
-ghost use Rattle.std.specs.Prelude.{◌≤◌, length, None, IfOk};
+ghost use Rattle.std.specs.Prelude.{◌≡◌, ◌≤◌, length, None, IfOk};
 
 use crate::{Bytes, Desk, DeskFault, Sink, SinkFault};
 use std::alloc::Global;
@@ -7,8 +7,8 @@ use std::io::{ErrorKind, Read, Write};
 use std::rt::Files;
 use std::{fs, str};
 
-/// The files of the system, by their names as text. It does not tell what it holds, and counts each error of a read but for
-/// a missing file.
+/// The files of the system, by their names as text. It does not report what it holds, and counts
+/// each error of a read but for a missing file.
 #[derive(Drop)]
 pub struct HostDesk<'r, R: Files> {
     rt: &'r R,
@@ -17,8 +17,11 @@ pub struct HostDesk<'r, R: Files> {
 }
 
 impl<'r, R: Files> HostDesk<'r, R> {
-    /// The files of the system, read by the runtime; no read has failed yet.
-    pub fn new(rt: &'r R, alloc: Global) -> HostDesk<'r, R> {
+    /// The files of the system, read by the runtime. No read has failed yet.
+    pub fn new(rt: &'r R, alloc: Global) -> HostDesk<'r, R>
+        ensures count { ⟦<HostDesk<'r, R> as Desk>⟧.fault_count result ≡ 0 }
+        ensures reported { ⟦<HostDesk<'r, R> as Desk>⟧.files result ≡ None }
+    {
         HostDesk {
             rt,
             alloc,
@@ -82,7 +85,8 @@ impl<'r, R: Files> Desk for HostDesk<'r, R> {
     }
 }
 
-/// One of std's writers. It does not tell what it has taken, and counts each error and each write of no bytes.
+/// One of std's writers. It does not report what was written, and counts each error and each write
+/// of no bytes.
 #[derive(Drop)]
 pub struct HostSink<W: Write + Drop> {
     writer: W,
@@ -90,14 +94,17 @@ pub struct HostSink<W: Write + Drop> {
 }
 
 impl<W: Write + Drop> HostSink<W> {
-    /// A sink over a writer of the system; no write has failed yet.
-    pub fn new(writer: W) -> HostSink<W> {
+    /// A sink over a writer of the system. No write has failed yet.
+    pub fn new(writer: W) -> HostSink<W>
+        ensures count { ⟦<HostSink<W> as Sink>⟧.fault_count result ≡ 0 }
+        ensures reported { ⟦<HostSink<W> as Sink>⟧.written result ≡ None }
+    {
         HostSink { writer, failed: 0 }
     }
 }
 
 impl<W: Write + Drop> Sink for HostSink<W> {
-    ghost told = { λ _. None };
+    ghost written = { λ _. None };
 
     ghost fault_count = { λ s. s.failed };
 

@@ -6,7 +6,8 @@ use crate::Memory;
 use std::alloc::Global;
 use std::marker::Model;
 
-/// A vector that contracts see as the list of its elements, so that a struct of lists is plain data in a definition.
+/// A vector that contracts see as the list of its elements, so that a struct of lists is plain data
+/// in a definition.
 #[derive(Debug, Drop)]
 pub struct Items<T> {
     items: Vec<T>,
@@ -24,7 +25,7 @@ impl<T> Model for Items<T> {
 }
 
 impl<T> Items<T> {
-    /// No elements. This takes no memory.
+    /// No elements. This allocates nothing.
     pub fn new(alloc: Global) -> Items<T>
         ensures { result ≡ [] }
     {

@@ -1,4 +1,4 @@
-//! A desk in memory, for tests. It tells what it holds, and fails at the calls that it is given.
+//! A desk in memory, for tests. It reports what it holds, and fails at the reads that are listed.
 ghost use Rattle.std.specs.Option.{ForSome, option_copied};
 ghost use Rattle.std.specs.Prelude.{◌≡◌, ◌≢◌, ◌≤◌, ◌∷◌, [], IfOk, OnErr, OnOk, Some, length};
 ghost use Rattle.xs_base.specs.Desks.{ReadCause, Reads};
@@ -47,7 +47,11 @@ impl MemDesk {
 
     /// Puts a file onto the desk, in front of one of the same name, which is hidden by it.
     pub fn add(&mut self, name: Bytes, bytes: Bytes) -> Result<(), Memory>
-        ensures ok { OnOk result (self.new ≡ record self.old { held_files = record { name = name; bytes = bytes } ∷ self.old.held_files }) }
+        ensures ok { OnOk result (self.new
+            ≡ record self.old {
+              held_files = record { name = name; bytes = bytes }
+                  ∷ self.old.held_files;
+            }) }
         ensures err { OnErr result (self.new ≡ self.old) }
     {
         self.held.insert(0, HeldFile { name, bytes })?;
@@ -56,7 +60,8 @@ impl MemDesk {
 
     /// Makes the read of this number fail. Reads are counted from 1.
     pub fn fail_at(&mut self, call: u64) -> Result<(), Memory>
-        ensures ok { OnOk result (self.new ≡ record self.old { failures = failing_at call self.old.failures }) }
+        ensures ok { OnOk result (self.new
+            ≡ record self.old { failures = failing_at call self.old.failures }) }
         ensures err { OnErr result (self.new ≡ self.old) }
     {
         self.failures.add(call)
@@ -82,7 +87,8 @@ impl Desk for MemDesk {
 
     fn read(&mut self, name: &Bytes, limit: u32) -> Result<Bytes, DeskFault>
         ensures bound { IfOk result (λ bytes. length bytes ≤ limit) }
-        ensures told { ForSome (Some (held self.old.held_files)) (λ files. Reads (files name.now) limit result) }
+        ensures reported { ForSome (Some (held self.old.held_files))
+            (λ files. Reads (files name.now) limit result) }
         ensures same { Some (held self.new.held_files) ≡ Some (held self.old.held_files) }
         ensures cause { ReadCause self.old.failures.failed self.new.failures.failed result }
         // It fails at the listed calls alone.

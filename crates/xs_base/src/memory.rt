@@ -1,7 +1,8 @@
-//! The one answer for want of memory.
+//! The one answer where memory runs out.
 use std::alloc::{AllocError, AllocFailed};
 
-/// No memory was found. Any call that takes memory may answer so, and no contract ties this answer to a cause.
+/// Out of memory. Any call that allocates may answer so, and no contract ties this answer to a
+/// cause.
 #[derive(Clone, Copy, Debug, PartialEq, Eq)]
 pub struct Memory;
 

@@ -4,10 +4,11 @@ ghost use Rattle.xs_base.specs.Names as spec;
 ghost use Rattle.xs_base.specs.Scanning as scanning;
 
 use crate::Bytes;
-use crate::runs::{ByteClass, are_all};
+use crate::byte_runs::{ByteClass, are_all};
 use crate::scanning::{begins_word, is_word_byte};
 
-/// Whether a text is an identifier: word bytes, one at least, of which the first is no digit (C standard).
+/// Whether a text is an identifier: word bytes, one at least, of which the first is no digit (C
+/// standard).
 pub fn is_identifier(text: &[u8]) -> bool
     ensures { result ≡ scanning.is_identifier text.now }
 {
@@ -63,10 +64,3 @@ pub fn is_among_names(names: &[Bytes], word: &[u8]) -> bool
 {
     names.iter().any(|name| name.as_slice() == word)
 }
-
-/// The qualified names are identifiers joined by `::`, and such texts alone.
-#[tactic(auto, using(crate::proofs::Qualified::qualified_joined, crate::proofs::Qualified::joined_qualified))]
-pub fn qualified_names_are_joined()
-    ensures joined { (text : List ℕ) → spec.is_qualified_name text ≡ true → spec.IsJoined text }
-    ensures named { (text : List ℕ) → spec.IsJoined text → spec.is_qualified_name text ≡ true }
-{}

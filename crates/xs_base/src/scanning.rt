@@ -10,8 +10,8 @@ pub fn is_blank(b: u8) -> bool
 }
 
 /// A decimal digit.
-pub fn is_digit(b: u8) -> bool
-    ensures { result ≡ spec.is_digit b }
+pub fn is_ascii_digit(b: u8) -> bool
+    ensures { result ≡ spec.is_ascii_digit b }
 {
     b'0' <= b && b <= b'9'
 }
@@ -34,12 +34,13 @@ pub fn begins_word(b: u8) -> bool
 pub fn is_word_byte(b: u8) -> bool
     ensures { result ≡ spec.is_word_byte b }
 {
-    begins_word(b) || is_digit(b)
+    begins_word(b) || is_ascii_digit(b)
 }
 
-/// What stands behind a byte, where the text begins with it.
-pub fn after_byte(byte: u8, text: &[u8]) -> Option<&[u8]>
-    ensures { MatchOption result (spec.after_byte byte text.now ≡ None) (λ rest. spec.after_byte byte text.now ≡ Some rest.now) }
+/// What stands after a byte, where the text begins with it.
+pub fn strip_byte(byte: u8, text: &[u8]) -> Option<&[u8]>
+    ensures { MatchOption result (spec.strip_byte byte text.now
+        ≡ None) (λ rest. spec.strip_byte byte text.now ≡ Some rest.now) }
 {
     match text {
         [first, rest @ ..] => { if *first == byte { Some(rest) } else { None } }
@@ -47,22 +48,23 @@ pub fn after_byte(byte: u8, text: &[u8]) -> Option<&[u8]>
     }
 }
 
-/// What stands behind a word, where the text begins with it.
-pub fn after_word<'a>(word: &[u8], text: &'a [u8]) -> Option<&'a [u8]>
-    ensures { MatchOption result (spec.after_word word.now text.now ≡ None) (λ rest. spec.after_word word.now text.now ≡ Some rest.now) }
+/// What stands after a word, where the text begins with it.
+pub fn strip_prefix<'a>(word: &[u8], text: &'a [u8]) -> Option<&'a [u8]>
+    ensures { MatchOption result (spec.strip_prefix word.now text.now
+        ≡ None) (λ rest. spec.strip_prefix word.now text.now ≡ Some rest.now) }
 {
     let mut rest = text;
     for byte in word {
-        rest = after_byte(*byte, rest)?;
+        rest = strip_byte(*byte, rest)?;
     }
     Some(rest)
 }
 
 /// Whether a text begins with a word.
-pub fn begins_with(word: &[u8], text: &[u8]) -> bool
-    ensures { result ≡ spec.begins_with word.now text.now }
+pub fn starts_with(word: &[u8], text: &[u8]) -> bool
+    ensures { result ≡ spec.starts_with word.now text.now }
 {
-    after_word(word, text).is_some()
+    strip_prefix(word, text).is_some()
 }
 
 /// The value of decimal digits, if it has 64 bits.

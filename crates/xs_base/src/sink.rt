@@ -11,21 +11,22 @@ pub enum SinkFault {
     Failed,
 }
 
-/// A place that bytes are written to. It may tell which bytes it has taken.
+/// A place that bytes are written to. It may report which bytes were written.
 pub trait Sink {
-    /// The bytes that it has taken, where it tells.
-    ghost told: { Self → Option (List ℕ) };
+    /// The bytes that were written, where it reports them.
+    ghost written: { Self → Option (List ℕ) };
 
     /// How many writes have failed so far. The count stops at 2^64 - 1.
     ghost fault_count: { Self → ℕ };
 
-    /// Takes bytes from the front of the piece, one at least, and says how many.
+    /// Writes bytes from the front of the piece, one at least, and gives how many.
     fn write(&mut self, piece: &[u8]) -> Result<usize, SinkFault>
         requires { 0 < length piece.now }
         ensures some { IfOk result (λ n. 0 < n) }
         ensures within { IfOk result (λ n. n ≤ length piece.now) }
-        ensures taken { IfOk result (λ n. told self.new ≡ appended (told self.old) (take n piece.now)) }
-        ensures failed { OnErr result (told self.new ≡ told self.old) }
+        ensures accepted { IfOk result (λ n. written self.new
+            ≡ appended (written self.old) (take n piece.now)) }
+        ensures failed { OnErr result (written self.new ≡ written self.old) }
         ensures cause { WriteCause (fault_count self.old) (fault_count self.new) result };
 
     /// The count of failed writes.
@@ -33,11 +34,11 @@ pub trait Sink {
         ensures { result ≡ fault_count self.now };
 }
 
-/// Writes all the bytes, in as many writes as the sink needs. Where a write fails a prefix of them is out. This takes no
-/// memory.
+/// Writes all the bytes, in as many writes as the sink needs. Where a write fails a prefix of them
+/// is out. This allocates nothing.
 pub fn put_all<S: Sink>(sink: &mut S, bytes: &[u8]) -> Result<(), SinkFault>
-    ensures ok { OnOk result (S.told sink.new ≡ appended (S.told sink.old) bytes.now) }
-    ensures err { OnErr result (AppendsPrefix (S.told sink.old) (S.told sink.new) bytes.now) }
+    ensures ok { OnOk result (S.written sink.new ≡ appended (S.written sink.old) bytes.now) }
+    ensures err { OnErr result (AppendsPrefix (S.written sink.old) (S.written sink.new) bytes.now) }
     ensures cause { WriteCause (S.fault_count sink.old) (S.fault_count sink.new) result }
 {
     let mut at = 0;

@@ -1,4 +1,4 @@
--- A call with as many arguments as the XSUB has parameters: both definitions tell the same.
+-- A call with as many arguments as the XSUB has parameters: both definitions report the same.
 use Rattle.std.proofs.Common.{◌≡◌, ℕ, suc, ℤ, ◌+◌, ◌≤◌, arith, Bool, true, false, List, [], ◌∷◌, ◌++◌, map, length, Some, None, refl, sym, ap, subst, ◌∙◌, append_assoc, append-nil, length-append}
 use Rattle.std.proofs.lemmas.Bool.{eqb-true}
 use Rattle.std.proofs.lemmas.Bool.Decides.{nat_tests}
@@ -11,7 +11,7 @@ use Rattle.xs_machine.specs.declared.machine.Outcome.{Outcome}
 use Rattle.xs_machine.specs.declared.machine.Outcome.TheVariants as outcome
 use Rattle.xs_ccheck.specs.Functions.{function_at}
 use Rattle.xs_machine.specs.Machine.{Mach, called, is_over}
-use Rattle.xs_ccheck.specs.Tree.{Code}
+use Rattle.xs_ccheck.specs.TypedTree.{Code}
 use Rattle.xs_api.specs.World.{Cells, World, live_of, registered}
 use Rattle.xs_api.specs.World as machine
 use Rattle.xs_values.proofs.Wrapping.{wrapped_value-held}
@@ -24,22 +24,22 @@ use Rattle.xs_iface.specs.declared.xsub.Param.{Param}
 use Rattle.xs_iface.specs.declared.xsub.Xsub.{Xsub}
 use Rattle.std.specs.List.{AllByRecursion as All}
 use Rattle.xs_iface.specs.SumForm.{IsSumXsub, IsTermOf}
-use Rattle.xs_call.specs.declared.calls.CallCommand.{CallCommand}
+use Rattle.xs_meaning.specs.declared.call_command.CallCommand.{CallCommand}
 use Rattle.xs_call.specs.GlueCode.{xsub_function}
-use Rattle.xs_call.specs.Meaning as declared
-use Rattle.xs_call.specs.Meaning.{Store, Ended, input_of, inputs_of, names_from, show_in, sum_of}
-use Rattle.xs_call.specs.Running as running
-use Rattle.xs_call.specs.Running.{end_of, show_cell}
-use Rattle.xs_call.specs.Transcript.{Returned, call_text, end_lines, arg_lines, item_line, returned_text}
-use Rattle.xs_call.proofs.Bodies.{HoldAll, holds, inputs_from}
-use Rattle.xs_call.proofs.Calling.{EndsAs, resting, trapped_called, large_called, returned_called}
-use Rattle.xs_call.proofs.Commands.{SameTold, Leaves, returned_told, told_behind, trapped_behind}
-use Rattle.xs_call.proofs.Numbers.{IsInt, IsIntOrTrap, in_iv}
-use Rattle.xs_call.proofs.Scalars.{get_at, one_longer}
+use Rattle.xs_meaning.specs.DeclaredMeaning as declared
+use Rattle.xs_meaning.specs.DeclaredMeaning.{Store, Ended, input_of, inputs_of, names_from, show_in, sum_of}
+use Rattle.xs_call.specs.MachineTranscript as running
+use Rattle.xs_call.specs.MachineTranscript.{end_of, show_cell}
+use Rattle.xs_meaning.specs.Transcript.{Returned, call_text, end_lines, arg_lines, item_line, returned_text}
+use Rattle.xs_call.proofs.Bodies.{HoldAll, inputs_from}
+use Rattle.xs_sim.specs.RunnerStates.{holds, EndsAs, resting, world, made, newest}
+use Rattle.xs_call.proofs.Calling.{trapped_called, large_called, returned_called}
+use Rattle.xs_call.proofs.Commands.{SameReport, Leaves, returned_reported, report_after, trapped_after}
+use Rattle.xs_sim.proofs.IntNumbers.{IsInt, IsIntOrTrap, in_iv}
+use Rattle.xs_sim.proofs.ListPositions.{get_at, one_longer}
 use Rattle.xs_call.proofs.Shown.{arg_lines-same, item_line-same, shown_same}
-use Rattle.xs_call.proofs.Statements.{world}
-use Rattle.xs_call.proofs.Sums.{sum_is_int}
-use Rattle.xs_call.proofs.Temporaries.{made, newest, writable}
+use Rattle.xs_call.proofs.SumMeanings.{sum_is_int}
+use Rattle.xs_sim.proofs.Temporaries.{writable}
 
 -- there is room for one scalar more, or there is none
 same_room : (cells : Cells) (store : Store) (b : Bool) → length cells ≡ length store → declared.may_make 1 store ≡ b → machine.may_make cells ≡ b
@@ -59,10 +59,13 @@ all_hold : (ps : List Param) (zs : List ℤ) (h t : Cells) (n : ℕ) → length 
 all_hold [] [] h t n e g = tt
 all_hold [] (z ∷ zs) h t n e g = absurd (omega (arith, e))
 all_hold (p ∷ ps) [] h t n e g = absurd (omega (arith, e))
-all_hold (p ∷ ps) (z ∷ zs) h t n e g =
-    (get_at h (made zs ++ t) (holds z) None n g, subst (λ c. HoldAll c ps (names_from (n + 1) zs) zs) (append_assoc h (holds z ∷ []) (made zs ++ t)) (all_hold ps zs (h ++ holds z ∷ []) t (n + 1) (omega (arith, e)) (one_longer h (holds z) n g)))
+all_hold (p ∷ ps) (z ∷ zs) h t n e g = (
+  get_at h (made zs ++ t) (holds z) None n g,
+  subst (λ c. HoldAll c ps (names_from (n + 1) zs) zs) (append_assoc h (holds z ∷ []) (made zs ++ t))
+      (all_hold ps zs (h ++ holds z ∷ []) t (n + 1) (omega (arith, e)) (one_longer h (holds z) n g)),
+)
 
--- the same where nothing stands behind the arguments
+-- the same where nothing stands after the arguments
 hold_made : (ps : List Param) (zs : List ℤ) (h : Cells) → length ps ≡ length zs → HoldAll (h ++ made zs) ps (names_from (length h) zs) zs
 hold_made ps zs h e = subst (λ c. HoldAll (h ++ c) ps (names_from (length h) zs) zs) (append-nil (made zs)) (all_hold ps zs h [] (length h) e refl)
 
@@ -84,7 +87,10 @@ newest_last (z ∷ zs) v n temps =
     let at : n + 1 + length zs ≡ n + suc (length zs) = omega arith in
     newest_last zs v (n + 1) (n ∷ temps) ∙ ap (λ k. k ∷ newest (n + 1) zs (n ∷ temps)) at
 
-module _ (code : Code) (names : List Registered) (x : Xsub) (ok : IsSumXsub x) (i : ℕ) (c : CallCommand) (known : registered c.sub names ≡ Some i) (here : function_at code (Some i) ≡ Some (xsub_function x)) (o : Outcome) (vars : List Operand) (f : Frame) (t0 turns : ℕ) (goes : is_over o ≡ false) (h : Cells) (s : Store) (long : 5 ≤ length h) (none : live_of h ≡ 0) (same : length h ≡ length s) (zs : List ℤ) (held : length (names_from (length h) zs) ≤ 1000000) (many : (length (names_from (length h) zs) == length x.params) ≡ true) where
+module _ (code : Code) (names : List Registered) (x : Xsub) (ok : IsSumXsub x) (i : ℕ) (c : CallCommand) (known : registered c.sub names
+    ≡ Some i) (here : function_at code (Some i) ≡ Some (xsub_function x)) (o : Outcome) (vars : List Operand) (f : Frame) (t0 turns : ℕ) (goes : is_over o
+    ≡ false) (h : Cells) (s : Store) (long : 5 ≤ length h) (none : live_of h ≡ 0) (same : length h ≡ length s) (zs : List ℤ)
+    (held : length (names_from (length h) zs) ≤ 1000000) (many : (length (names_from (length h) zs) == length x.params) ≡ true) where
   abbrev args : List ℕ
   args = names_from (length h) zs
 
@@ -123,18 +129,21 @@ module _ (code : Code) (names : List Registered) (x : Xsub) (ok : IsSumXsub x) (
   declared_result = rw (many, inputs_made zs s (length h) (sym same)) refl
 
   abbrev Same : Ended → Type 0
-  Same d = SameTold names (running.told_end (call_text c) args (end_of end.stopped) end) (declared.told_ended c args d)
+  Same d = SameReport names (running.report_at_end (call_text c) args (end_of end.stopped) end) (declared.ended_report c args d)
 
   trap_same : (trap : Trap) → sum ≡ Err trap → Same (declared.result_of store (Err trap))
-  trap_same trap e = trapped_behind names c args end trap _ store (trapped_called code c.sub args temps cells names o vars f t0 goes x i known here few turns held many zs hold terms trap e)
+  trap_same trap e =
+      trapped_after names c args end trap _ store
+      (trapped_called code c.sub args temps cells names o vars f t0 goes x i known here few turns held many zs hold terms trap e)
 
   same_lengths : length cells ≡ length store
   same_lengths = omega (arith, same, length-append h (made zs), length-append s (map Int zs), length-map zs holds, length-map zs Int)
 
   large_same : (n : Number) → sum ≡ Ok n → declared.may_make 1 store ≡ false → Same (declared.result_of store (Ok n))
   large_same n e full =
-      let runs = large_called code c.sub args temps cells names o vars f t0 goes x i known here few turns held many zs hold terms n e (same_room cells store false same_lengths full) in
-      rw full (trapped_behind names c args end Large _ store runs)
+      let runs = large_called code c.sub args temps cells names o vars f t0 goes x i known here few turns held many zs hold terms n e
+      (same_room cells store false same_lengths full) in
+      rw full (trapped_after names c args end Large _ store runs)
 
   -- the result is a number that an `int` holds
   result_held : (n : Number) → sum ≡ Ok n → IsInt n
@@ -144,7 +153,8 @@ module _ (code : Code) (names : List Registered) (x : Xsub) (ok : IsSumXsub x) (
   as_iv n e = wrapped_value-held I64 n.value (in_iv n.value (result_held n e).1)
 
   stored : (n : Number) → sum ≡ Ok n → wrapped_value I64 (wrapped_value I64 (wrapped_value I32 n.value)) ≡ n.value
-  stored n e = ap (λ z. wrapped_value I64 (wrapped_value I64 z)) (wrapped_value-held I32 n.value (result_held n e).1) ∙ ap (wrapped_value I64) (as_iv n e) ∙ as_iv n e
+  stored n e = ap (λ z. wrapped_value I64 (wrapped_value I64 z)) (wrapped_value-held I32 n.value (result_held n e).1) ∙ ap (wrapped_value I64) (as_iv n e)
+      ∙ as_iv n e
 
   -- the result scalar's name
   abbrev name : ℕ
@@ -156,7 +166,7 @@ module _ (code : Code) (names : List Registered) (x : Xsub) (ok : IsSumXsub x) (
   next_value : length store ≡ name
   next_value = omega (arith, same, length-append s (map Int zs), length-map zs Int)
 
-  -- the cells, the world and the store behind the call
+  -- the cells, the world and the store after the call
   abbrev end_cells : ℤ → Cells
   end_cells v = h ++ (made zs ++ holds v ∷ [])
 
@@ -169,18 +179,23 @@ module _ (code : Code) (names : List Registered) (x : Xsub) (ok : IsSumXsub x) (
   runs_to : (n : Number) → sum ≡ Ok n → declared.may_make 1 store ≡ true → EndsAs end (outcome.Returned (name ∷ [])) (end_world n.value)
   runs_to n e room =
       let W : ℕ → ℤ → World = λ r v. world (cells ++ holds v ∷ []) (r ∷ []) 1 [] (r ∷ temps) names in
-      let runs = returned_called code c.sub args temps cells names o vars f t0 goes x i known here few turns held many zs hold terms n e (same_room cells store true same_lengths room) (writable (length cells) (omega (arith, next_cell, long))) in
+      let runs = returned_called code c.sub args temps cells names o vars f t0 goes x i known here few turns held many zs hold terms n e
+      (same_room cells store true same_lengths room) (writable (length cells) (omega (arith, next_cell, long))) in
       let at_name : EndsAs end (outcome.Returned (name ∷ [])) (W name (wrapped_value I64 (wrapped_value I64 (wrapped_value I32 n.value)))) =
       subst (λ r. EndsAs end (outcome.Returned (r ∷ [])) (W r (wrapped_value I64 (wrapped_value I64 (wrapped_value I32 n.value))))) next_cell runs in
       let at_value : EndsAs end (outcome.Returned (name ∷ [])) (W name n.value) =
       subst (λ v. EndsAs end (outcome.Returned (name ∷ [])) (W name v)) (stored n e) at_name in
       let with_cells : EndsAs end (outcome.Returned (name ∷ [])) (world (h ++ made (zs ++ n.value ∷ [])) (name ∷ []) 1 [] (name ∷ temps) names) =
-      subst (λ cs. EndsAs end (outcome.Returned (name ∷ [])) (world cs (name ∷ []) 1 [] (name ∷ temps) names)) (append_assoc h (made zs) (holds n.value ∷ []) ∙ ap (λ l. h ++ l) (sym (map-append holds zs (n.value ∷ [])))) at_value in
-      subst (λ ts. EndsAs end (outcome.Returned (name ∷ [])) (world (h ++ made (zs ++ n.value ∷ [])) (name ∷ []) 1 [] ts names)) (sym (newest_last zs n.value (length h) [])) with_cells
+      subst (λ cs. EndsAs end (outcome.Returned (name ∷ [])) (world cs (name ∷ []) 1 [] (name ∷ temps) names)) (append_assoc h (made zs) (holds n.value ∷ [])
+      ∙ ap (λ l. h ++ l) (sym (map-append holds zs (n.value ∷ [])))) at_value in
+      subst (λ ts. EndsAs end (outcome.Returned (name ∷ [])) (world (h ++ made (zs ++ n.value ∷ [])) (name ∷ []) 1 [] ts names))
+      (sym (newest_last zs n.value (length h) [])) with_cells
 
-  declared_returns : (n : Number) → sum ≡ Ok n → declared.may_make 1 store ≡ true → declared.result_of store (Ok n) ≡ record { how = Returned (name ∷ []); store = end_store n.value }
+  declared_returns : (n : Number) → sum ≡ Ok n → declared.may_make 1 store ≡ true
+      → declared.result_of store (Ok n) ≡ record { how = Returned (name ∷ []); store = end_store n.value }
   declared_returns n e room =
-      let made_one : declared.result_of store (Ok n) ≡ record { how = Returned (length store ∷ []); store = store ++ Int (wrapped_value I64 n.value) ∷ [] } = rw room refl in
+      let made_one : declared.result_of store (Ok n) ≡ record { how = Returned (length store ∷ []); store = store ++ Int (wrapped_value I64 n.value) ∷ [] } =
+      rw room refl in
       let E : ℕ → Store → Ended = λ r l. record { how = Returned (r ∷ []); store = l } in
       made_one
       ∙ ap (λ r. E r (store ++ Int (wrapped_value I64 n.value) ∷ [])) next_value
@@ -196,10 +211,13 @@ module _ (code : Code) (names : List Registered) (x : Xsub) (ok : IsSumXsub x) (
 
   lines_at : (v : ℤ) → end_lines (show_cell (end_cells v)) args (Returned (name ∷ [])) ≡ end_lines (show_in (end_store v)) args (Returned (name ∷ []))
   lines_at v =
-      ap (λ l. returned_text 1 ++ ((l ++ []) ++ arg_lines (show_cell (end_cells v)) 0 args)) (item_line-same (show_cell (end_cells v)) (show_in (end_store v)) args 0 name (item_shown v))
-      ∙ ap (λ l. returned_text 1 ++ ((item_line (show_in (end_store v)) args 0 name ++ []) ++ l)) (arg_lines-same zs h (holds v ∷ []) s (Int v ∷ []) (length h) 0 refl (sym same))
+      ap (λ l. returned_text 1 ++ ((l ++ []) ++ arg_lines (show_cell (end_cells v)) 0 args))
+      (item_line-same (show_cell (end_cells v)) (show_in (end_store v)) args 0 name (item_shown v))
+      ∙ ap (λ l. returned_text 1 ++ ((item_line (show_in (end_store v)) args 0 name ++ []) ++ l))
+      (arg_lines-same zs h (holds v ∷ []) s (Int v ∷ []) (length h) 0 refl (sym same))
 
-  lines_same : (v : ℤ) → end_lines (show_cell (h ++ made (zs ++ v ∷ []))) args (Returned (name ∷ [])) ≡ end_lines (show_in (end_store v)) args (Returned (name ∷ []))
+  lines_same : (v : ℤ) → end_lines (show_cell (h ++ made (zs ++ v ∷ []))) args (Returned (name ∷ []))
+      ≡ end_lines (show_in (end_store v)) args (Returned (name ∷ []))
   lines_same v = ap (λ l. end_lines (show_cell (h ++ l)) args (Returned (name ∷ []))) (map-append holds zs (v ∷ [])) ∙ lines_at v
 
   leaves : (v : ℤ) → declared.may_make 1 store ≡ true → Leaves (end_store v) h (zs ++ v ∷ [])
@@ -208,15 +226,25 @@ module _ (code : Code) (names : List Registered) (x : Xsub) (ok : IsSumXsub x) (
       record {
         long = long;
         none = none;
-        same = omega (arith, same, length-append s (map Int zs ++ Int v ∷ []), length-append (map Int zs) (Int v ∷ []), length-map zs Int, length-append zs (v ∷ []));
+        same = omega (
+          arith,
+          same,
+          length-append s (map Int zs ++ Int v ∷ []),
+          length-append (map Int zs) (Int v ∷ []),
+          length-map zs Int,
+          length-append zs (v ∷ []),
+        );
         few = omega (arith, fits, next_value, length-append zs (v ∷ []));
       }
 
   return_same : (n : Number) → sum ≡ Ok n → declared.may_make 1 store ≡ true → Same (declared.result_of store (Ok n))
   return_same n e room =
       subst Same (sym (declared_returns n e room))
-      (told_behind names c args end (outcome.Returned (name ∷ [])) (end_world n.value) (declared.told_end c args (Returned (name ∷ [])) (end_store n.value)) (runs_to n e room)
-      (λ vs g k. returned_told names c args vs g k (name ∷ []) 1 h (zs ++ n.value ∷ []) (end_store n.value) (leaves n.value room) (name ∷ []) (lines_same n.value)))
+      (report_after names c args end (outcome.Returned (name ∷ [])) (end_world n.value)
+      (declared.report_at_end c args (Returned (name ∷ [])) (end_store n.value))
+      (runs_to n e room)
+      (λ vs g k. returned_reported names c args vs g k (name ∷ []) 1 h (zs ++ n.value ∷ []) (end_store n.value) (leaves n.value room) (name ∷ [])
+      (lines_same n.value)))
 
   made_same : (n : Number) → sum ≡ Ok n → (room : Bool) → declared.may_make 1 store ≡ room → Same (declared.result_of store (Ok n))
   made_same n e true room = return_same n e room

@@ -11,9 +11,11 @@ use Rattle.xs_api.specs.declared.api.Operand.TheVariants.{Unset, Num, Scalar, Vo
 use Rattle.xs_api.specs.declared.api.Registered.{Registered}
 use Rattle.xs_api.specs.declared.heap.Cell.{Cell}
 use Rattle.xs_machine.specs.Cmean.{meaning, meaning_all}
-use Rattle.xs_api.specs.Rows.{counted_rows, usage_text}
-use Rattle.xs_machine.specs.State.{State, Out, Stop, Done, calculate}
-use Rattle.xs_ccheck.specs.Tree.{SvNewMortal, SvSetIv, StSet, XsReturn, Tree, Variable, Convert, Declare}
+use Rattle.xs_api.specs.Rows.{usage_text}
+use Rattle.xs_machine.specs.Dispatch.{counted_rows}
+use Rattle.xs_machine.specs.MachineState.{State, Out, Stop, Done, calculate}
+use Rattle.xs_perlapi.specs.declared.row.Row.TheVariants.{SvNewMortal, SvSetIv, StSet, XsReturn}
+use Rattle.xs_ccheck.specs.TypedTree.{Tree, Variable, Convert, Declare}
 use Rattle.xs_api.specs.World.{Cells, World, cell_at, is_read_only, may_make}
 use Rattle.xs_values.specs.declared.kind.Kind.TheVariants.{I32, I64}
 use Rattle.xs_values.specs.declared.plain.Plain.TheVariants.{Undef, Int}
@@ -26,12 +28,14 @@ use Rattle.xs_iface.specs.declared.xsub.Xsub.{Xsub}
 use Rattle.std.specs.List.{AllByRecursion as All}
 use Rattle.xs_iface.specs.SumForm.{IsTermOf}
 use Rattle.xs_stub.specs.Stub.{joined_names}
-use Rattle.xs_call.specs.GlueCode.{trees_of, row_of, row_done, int_literal, assign_int, assign_scalar, declarations, input, inputs, retval, retval_scalar, sum_tree, end, work, xsub_body}
-use Rattle.xs_call.specs.Meaning.{sum_of}
-use Rattle.xs_call.proofs.Scalars.{get_at, get_next, set_at, set_next, find_at, one_longer}
-use Rattle.xs_call.proofs.Numbers.{in_range}
-use Rattle.xs_call.proofs.Statements.{state, world, frame, then_on, then_out, input_done, int_done, int_trapped, mortal_done, mortal_large, setiv_done, item_done, item_returned, with_first}
-use Rattle.xs_call.proofs.Sums.{sum_means}
+use Rattle.xs_call.specs.GlueCode.{declarations, input, inputs, retval, retval_scalar, sum_tree, end, work, xsub_body}
+use Rattle.xs_sim.specs.TreeBuilders.{trees_of, row_of, row_done, int_literal, assign_int, assign_scalar}
+use Rattle.xs_meaning.specs.DeclaredMeaning.{sum_of}
+use Rattle.xs_sim.proofs.ListPositions.{get_at, get_next, set_at, set_next, find_at, one_longer}
+use Rattle.xs_sim.proofs.IntNumbers.{in_range}
+use Rattle.xs_sim.proofs.StatementMeanings.{then_on, then_out, input_done, int_done, int_trapped, mortal_done, mortal_large, setiv_done, item_done, item_returned, with_first}
+use Rattle.xs_sim.specs.RunnerStates.{state, world, frame, holds}
+use Rattle.xs_call.proofs.SumMeanings.{sum_means}
 
 -- ---- the argument test
 
@@ -45,21 +49,23 @@ agrees : (n k : ℕ) → (n == k) ≡ true → is_same (pos n) (pos k) ≡ true
 agrees n k e = grind (arith, ints, nat_tests)
 
 -- the numbers that are compared are the counts themselves
-counts : (n m k : ℕ) → m ≡ n → n ≤ 1000000 → k ≤ 1000000 → is_same (wrapped_value I32 (wrapped_value I32 (pos m))) (wrapped_value I32 (pos k)) ≡ is_same (pos n) (pos k)
+counts : (n m k : ℕ) → m ≡ n → n ≤ 1000000 → k ≤ 1000000 → is_same (wrapped_value I32 (wrapped_value I32 (pos m))) (wrapped_value I32 (pos k))
+    ≡ is_same (pos n) (pos k)
 counts n m k e h few =
     ap (λ i. is_same (wrapped_value I32 (wrapped_value I32 (pos i))) (wrapped_value I32 (pos k))) e
     ∙ ap (λ z. is_same (wrapped_value I32 z) (wrapped_value I32 (pos k))) (small_held n h)
     ∙ ap (λ z. is_same z (wrapped_value I32 (pos k))) (small_held n h)
     ∙ ap (is_same (pos n)) (small_held k few)
 
-module _ (x : Xsub) (vars : List Operand) (called args temps : List ℕ) (cells : Cells) (names : List Registered) (top turns : ℕ) (whole : top ≡ length args) (held : length args ≤ 1000000) (few : length x.params ≤ 1000000) where
+module _ (x : Xsub) (vars : List Operand) (called args temps : List ℕ) (cells : Cells) (names : List Registered) (top turns : ℕ) (whole : top
+    ≡ length args) (held : length args ≤ 1000000) (few : length x.params ≤ 1000000) where
   -- another number of arguments
   pub usage_means : (length args == length x.params) ≡ false →
       meaning counted_rows (xsub_body x) (state vars (frame called 0) (world cells args top (0 ∷ []) temps names) turns)
       ≡ Stop (Croaks (usage_text called (joined_names x.params))) (state vars (frame called (top - 0)) (world cells args top [] temps names) turns)
   usage_means d = rw (counts (length args) (top - 0) (length x.params) (omega (arith, whole)) held few, differs (length args) (length x.params) d) refl
 
-  -- the work, behind the argument test
+  -- the work, after the argument test
   pub work_means : (length args == length x.params) ≡ true → (way : Abrupt) (σ : State World)
       → meaning_all counted_rows (trees_of (work x)) (state vars (frame called (top - 0)) (world cells args top [] temps names) turns) ≡ Stop way σ
       → meaning counted_rows (xsub_body x) (state vars (frame called 0) (world cells args top (0 ∷ []) temps names) turns) ≡ Stop way σ
@@ -86,27 +92,29 @@ still_unset (p ∷ ps) zero = refl
 still_unset (p ∷ ps) (suc slot) = ap (λ vars. Unset ∷ vars) (still_unset ps slot)
 
 module _ (f : Frame) (w : World) (turns : ℕ) where
-  declared_one : (all : List Param) (slot : ℕ) (rest : List Tree) → meaning_all counted_rows (trees_of (Declare slot ∷ rest)) (state (unset_for all) f w turns) ≡ meaning_all counted_rows (trees_of rest) (state (unset_for all) f w turns)
+  declared_one : (all : List Param) (slot : ℕ) (rest : List Tree) → meaning_all counted_rows (trees_of (Declare slot ∷ rest)) (state (unset_for all) f w turns)
+      ≡ meaning_all counted_rows (trees_of rest) (state (unset_for all) f w turns)
   declared_one all slot rest = ap (λ vars. meaning_all counted_rows (trees_of rest) (state vars f w turns)) (still_unset all slot)
 
-  declared_all : (all ps : List Param) (slot : ℕ) (rest : List Tree) → meaning_all counted_rows (trees_of (declarations slot ps ++ rest)) (state (unset_for all) f w turns) ≡ meaning_all counted_rows (trees_of rest) (state (unset_for all) f w turns)
+  declared_all : (all ps : List Param) (slot : ℕ) (rest : List Tree)
+      → meaning_all counted_rows (trees_of (declarations slot ps ++ rest)) (state (unset_for all) f w turns)
+      ≡ meaning_all counted_rows (trees_of rest) (state (unset_for all) f w turns)
   declared_all all [] slot rest = refl
   declared_all all (p ∷ ps) slot rest = declared_one all slot (declarations (slot + 1) ps ++ rest) ∙ declared_all all ps (slot + 1) rest
 
   -- the declarations of a glue function
-  head_done : (x : Xsub) → meaning_all counted_rows (trees_of (work x)) (state (unset_for x.params) f w turns) ≡ meaning_all counted_rows (trees_of (inputs 0 x.params ++ (assign_int (retval x) (sum_tree x.sum) ∷ end x))) (state (unset_for x.params) f w turns)
+  head_done : (x : Xsub) → meaning_all counted_rows (trees_of (work x)) (state (unset_for x.params) f w turns)
+      ≡ meaning_all counted_rows (trees_of (inputs 0 x.params ++ (assign_int (retval x) (sum_tree x.sum) ∷ end x))) (state (unset_for x.params) f w turns)
   head_done x =
-      let behind : List Tree = inputs 0 x.params ++ (assign_int (retval x) (sum_tree x.sum) ∷ end x) in
-      ap (λ ts. meaning_all counted_rows (trees_of ts) (state (unset_for x.params) f w turns)) (append_assoc (declarations 0 x.params) (Declare (retval x) ∷ Declare (retval_scalar x) ∷ inputs 0 x.params) (assign_int (retval x) (sum_tree x.sum) ∷ end x))
-      ∙ declared_all x.params x.params 0 (Declare (retval x) ∷ Declare (retval_scalar x) ∷ behind)
-      ∙ declared_one x.params (retval x) (Declare (retval_scalar x) ∷ behind)
-      ∙ declared_one x.params (retval_scalar x) behind
+      let after : List Tree = inputs 0 x.params ++ (assign_int (retval x) (sum_tree x.sum) ∷ end x) in
+      ap (λ ts. meaning_all counted_rows (trees_of ts) (state (unset_for x.params) f w turns))
+      (append_assoc (declarations 0 x.params) (Declare (retval x) ∷ Declare (retval_scalar x) ∷ inputs 0 x.params)
+      (assign_int (retval x) (sum_tree x.sum) ∷ end x))
+      ∙ declared_all x.params x.params 0 (Declare (retval x) ∷ Declare (retval_scalar x) ∷ after)
+      ∙ declared_one x.params (retval x) (Declare (retval_scalar x) ∷ after)
+      ∙ declared_one x.params (retval_scalar x) after
 
 -- ---- inputs
-
--- an argument's cell
-abbrev pub holds : ℤ → Option Cell
-holds z = Some (record { value = Int z; count = 1 })
 
 -- each argument's cell holds its number, and there are as many as parameters
 abbrev pub HoldAll : Cells → List Param → List ℕ → List ℤ → Type 0
@@ -139,9 +147,12 @@ module _ (cells : Cells) (args : List ℕ) (called : List ℕ) (items top : ℕ)
       let base : 0 + place ≡ place = omega arith in
       let found : slice_get args (0 + place) ≡ Some n = ap (slice_get args) base ∙ ap (λ l. slice_get l place) a ∙ find_at front ns n place e in
       let later : List Tree = inputs (place + 1) ps ++ rest in
-      then_on (input place) (trees_of later) (over (done ++ Unset ∷ unset_for ps)) (over (slice_set (done ++ Unset ∷ unset_for ps) place number)) Void (input_done place n 1 z (done ++ Unset ∷ unset_for ps) (frame called items) (world cells args top marks temps names) turns found h.0)
-      ∙ ap (λ vars. meaning_all counted_rows (trees_of later) (over vars)) (set_at done (unset_for ps) Unset number place g ∙ sym (append_assoc done (number ∷ []) (unset_for ps)))
-      ∙ inputs_done ps ns zs (front ++ n ∷ []) (done ++ number ∷ []) (place + 1) rest h.1 (a ∙ sym (append_assoc front (n ∷ []) ns)) (one_longer front n place e) (one_longer done number place g)
+      then_on (input place) (trees_of later) (over (done ++ Unset ∷ unset_for ps)) (over (slice_set (done ++ Unset ∷ unset_for ps) place number)) Void
+      (input_done place n 1 z (done ++ Unset ∷ unset_for ps) (frame called items) (world cells args top marks temps names) turns found h.0)
+      ∙ ap (λ vars. meaning_all counted_rows (trees_of later) (over vars)) (set_at done (unset_for ps) Unset number place g
+      ∙ sym (append_assoc done (number ∷ []) (unset_for ps)))
+      ∙ inputs_done ps ns zs (front ++ n ∷ []) (done ++ number ∷ []) (place + 1) rest h.1 (a ∙ sym (append_assoc front (n ∷ []) ns))
+      (one_longer front n place e) (one_longer done number place g)
       ∙ ap (λ vars. meaning_all counted_rows (trees_of rest) (over vars)) (append_assoc done (number ∷ []) (map Num (inputs_from zs) ++ Unset ∷ Unset ∷ []))
 
 -- ---- as many arguments as parameters
@@ -154,7 +165,8 @@ length_numbers (p ∷ ps) [] zs cells h = absurd h
 length_numbers (p ∷ ps) (n ∷ ns) [] cells h = absurd h
 length_numbers (p ∷ ps) (n ∷ ns) (z ∷ zs) cells h = ap suc (length_numbers ps ns zs cells h.1)
 
-module _ (x : Xsub) (zs : List ℤ) (called args temps : List ℕ) (cells : Cells) (names : List Registered) (items top turns : ℕ) (h : HoldAll cells x.params args zs) (terms : All (IsTermOf (length (inputs_from zs))) x.sum) where
+module _ (x : Xsub) (zs : List ℤ) (called args temps : List ℕ) (cells : Cells) (names : List Registered) (items top turns : ℕ)
+    (h : HoldAll cells x.params args zs) (terms : All (IsTermOf (length (inputs_from zs))) x.sum) where
   abbrev numbers : List Operand
   numbers = map Num (inputs_from zs)
 
@@ -180,8 +192,10 @@ module _ (x : Xsub) (zs : List ℤ) (called args temps : List ℕ) (cells : Cell
   pub trapped_means : (trap : Trap) → sum_of (inputs_from zs) x.sum ≡ Err trap → begun ≡ Stop (Traps trap) (entered (numbers ++ Unset ∷ Unset ∷ []))
   trapped_means trap e =
       let sum : meaning counted_rows (sum_tree x.sum) (entered (numbers ++ Unset ∷ Unset ∷ [])) ≡ Stop (Traps trap) (entered (numbers ++ Unset ∷ Unset ∷ [])) =
-      sum_means (inputs_from zs) (Unset ∷ Unset ∷ []) (frame called items) (world cells args top [] temps names) turns x.sum terms ∙ ap (λ r. calculate r (entered (numbers ++ Unset ∷ Unset ∷ []))) e in
-      to_sum ∙ then_out (assign_int (retval x) (sum_tree x.sum)) (trees_of (end x)) (entered (numbers ++ Unset ∷ Unset ∷ [])) (entered (numbers ++ Unset ∷ Unset ∷ [])) (Traps trap)
+      sum_means (inputs_from zs) (Unset ∷ Unset ∷ []) (frame called items) (world cells args top [] temps names) turns x.sum terms
+      ∙ ap (λ r. calculate r (entered (numbers ++ Unset ∷ Unset ∷ []))) e in
+      to_sum ∙ then_out (assign_int (retval x) (sum_tree x.sum)) (trees_of (end x)) (entered (numbers ++ Unset ∷ Unset ∷ []))
+      (entered (numbers ++ Unset ∷ Unset ∷ [])) (Traps trap)
       (int_trapped (retval x) (sum_tree x.sum) trap (numbers ++ Unset ∷ Unset ∷ []) (frame called items) (world cells args top [] temps names) turns sum)
 
   module _ (n : Number) (summed : sum_of (inputs_from zs) x.sum ≡ Ok n) where
@@ -191,14 +205,17 @@ module _ (x : Xsub) (zs : List ℤ) (called args temps : List ℕ) (cells : Cell
     sum_done : begun ≡ meaning_all counted_rows (trees_of (end x)) (entered (numbers ++ result ∷ Unset ∷ []))
     sum_done =
         let sum : meaning counted_rows (sum_tree x.sum) (entered (numbers ++ Unset ∷ Unset ∷ [])) ≡ Done (Num n) (entered (numbers ++ Unset ∷ Unset ∷ [])) =
-        sum_means (inputs_from zs) (Unset ∷ Unset ∷ []) (frame called items) (world cells args top [] temps names) turns x.sum terms ∙ ap (λ r. calculate r (entered (numbers ++ Unset ∷ Unset ∷ []))) summed in
+        sum_means (inputs_from zs) (Unset ∷ Unset ∷ []) (frame called items) (world cells args top [] temps names) turns x.sum terms
+        ∙ ap (λ r. calculate r (entered (numbers ++ Unset ∷ Unset ∷ []))) summed in
         to_sum
-        ∙ then_on (assign_int (retval x) (sum_tree x.sum)) (trees_of (end x)) (entered (numbers ++ Unset ∷ Unset ∷ [])) (entered (slice_set (numbers ++ Unset ∷ Unset ∷ []) (retval x) result)) Void
+        ∙ then_on (assign_int (retval x) (sum_tree x.sum)) (trees_of (end x)) (entered (numbers ++ Unset ∷ Unset ∷ []))
+        (entered (slice_set (numbers ++ Unset ∷ Unset ∷ []) (retval x) result)) Void
         (int_done (retval x) (sum_tree x.sum) n (numbers ++ Unset ∷ Unset ∷ []) (frame called items) (world cells args top [] temps names) turns sum)
         ∙ ap (λ vars. meaning_all counted_rows (trees_of (end x)) (entered vars)) (set_at numbers (Unset ∷ []) Unset result (length x.params) as_many)
 
     pub large_means : may_make cells ≡ false → begun ≡ Stop (Traps Large) (entered (numbers ++ result ∷ Unset ∷ []))
-    large_means full = sum_done ∙ rw (mortal_large (retval_scalar x) (numbers ++ result ∷ Unset ∷ []) (frame called items) (world cells args top [] temps names) turns full) refl
+    large_means full = sum_done
+        ∙ rw (mortal_large (retval_scalar x) (numbers ++ result ∷ Unset ∷ []) (frame called items) (world cells args top [] temps names) turns full) refl
 
     -- the number that the result scalar gets
     abbrev stored : ℤ
@@ -211,9 +228,9 @@ module _ (x : Xsub) (zs : List ℤ) (called args temps : List ℕ) (cells : Cell
     abbrev fresh : Cell
     fresh = record { value = Undef; count = 1 }
 
-    -- the state behind its making, with its cell
-    abbrev behind : Option Cell → State World
-    behind c = state with_result (frame called items) (world (cells ++ c ∷ []) args top [] (length cells ∷ temps) names) turns
+    -- the state after its making, with its cell
+    abbrev after : Option Cell → State World
+    after c = state with_result (frame called items) (world (cells ++ c ∷ []) args top [] (length cells ∷ temps) names) turns
 
     -- the state at the end
     abbrev ended : State World
@@ -232,27 +249,37 @@ module _ (x : Xsub) (zs : List ℤ) (called args temps : List ℕ) (cells : Cell
     abbrev setiv : Tree
     setiv = row_done SvSetIv (Variable (retval_scalar x) ∷ Convert I64 (Variable (retval x)) ∷ [])
 
-    scalar_made : may_make cells ≡ true → begun ≡ meaning_all counted_rows (trees_of (setiv ∷ item_trees)) (behind (Some fresh))
+    scalar_made : may_make cells ≡ true → begun ≡ meaning_all counted_rows (trees_of (setiv ∷ item_trees)) (after (Some fresh))
     scalar_made room =
         let made = mortal_done (retval_scalar x) (numbers ++ result ∷ Unset ∷ []) (frame called items) (world cells args top [] temps names) turns room in
         sum_done
-        ∙ then_on (assign_scalar (retval_scalar x) (row_of SvNewMortal [])) (trees_of (setiv ∷ item_trees)) (entered (numbers ++ result ∷ Unset ∷ [])) _ Void made
-        ∙ ap (λ vars. meaning_all counted_rows (trees_of (setiv ∷ item_trees)) (state vars (frame called items) (world (cells ++ Some fresh ∷ []) args top [] (length cells ∷ temps) names) turns)) (set_next numbers [] result Unset (Scalar (Some (length cells))) (length x.params) as_many)
+        ∙ then_on (assign_scalar (retval_scalar x) (row_of SvNewMortal [])) (trees_of (setiv ∷ item_trees))
+        (entered (numbers ++ result ∷ Unset ∷ [])) _ Void made
+        ∙ ap (λ vars. meaning_all counted_rows (trees_of (setiv ∷ item_trees))
+        (state vars (frame called items) (world (cells ++ Some fresh ∷ []) args top [] (length cells ∷ temps) names) turns))
+        (set_next numbers [] result Unset (Scalar (Some (length cells))) (length x.params) as_many)
 
-    scalar_set : may_make cells ≡ true → is_read_only (length cells) ≡ false → begun ≡ meaning_all counted_rows (trees_of item_trees) (behind (holds stored))
+    scalar_set : may_make cells ≡ true → is_read_only (length cells) ≡ false → begun ≡ meaning_all counted_rows (trees_of item_trees) (after (holds stored))
     scalar_set room writable =
         let found : cell_at (length cells) (cells ++ Some fresh ∷ []) ≡ Some fresh = get_at cells [] (Some fresh) None (length cells) refl in
-        let sets = setiv_done (retval_scalar x) (retval x) with_result (wrapped I32 n.value) (length cells) fresh (frame called items) (world (cells ++ Some fresh ∷ []) args top [] (length cells ∷ temps) names) turns scalar_read number_read found writable in
+        let sets = setiv_done (retval_scalar x) (retval x) with_result (wrapped I32 n.value) (length cells) fresh (frame called items)
+        (world (cells ++ Some fresh ∷ []) args top [] (length cells ∷ temps) names) turns scalar_read number_read found writable in
         scalar_made room
-        ∙ then_on setiv (trees_of item_trees) (behind (Some fresh)) _ Void sets
-        ∙ ap (λ cs. meaning_all counted_rows (trees_of item_trees) (state with_result (frame called items) (world cs args top [] (length cells ∷ temps) names) turns)) (set_at cells [] (Some fresh) (holds stored) (length cells) refl)
+        ∙ then_on setiv (trees_of item_trees) (after (Some fresh)) _ Void sets
+        ∙ ap (λ cs. meaning_all counted_rows (trees_of item_trees)
+        (state with_result (frame called items) (world cs args top [] (length cells ∷ temps) names) turns))
+        (set_at cells [] (Some fresh) (holds stored) (length cells) refl)
 
     pub returned_means : may_make cells ≡ true → is_read_only (length cells) ≡ false → begun ≡ Stop (Returns (length cells ∷ [])) ended
     returned_means room writable =
         let last : List Tree = row_done XsReturn (int_literal 1 ∷ []) ∷ [] in
-        let returns : State World = state with_result (frame called items) (world (cells ++ holds stored ∷ []) (with_first (length cells) args) top [] (length cells ∷ temps) names) turns in
+        let returns : State World =
+        state with_result (frame called items) (world (cells ++ holds stored ∷ []) (with_first (length cells) args) top [] (length cells ∷ temps) names)
+        turns in
         let found : cell_at (length cells) (cells ++ holds stored ∷ []) ≡ holds stored = get_at cells [] (holds stored) None (length cells) refl in
-        let item = item_done args (retval_scalar x) with_result (length cells) (record { value = Int stored; count = 1 }) called items (cells ++ holds stored ∷ []) top [] (length cells ∷ temps) names turns scalar_read found in
+        let item = item_done args (retval_scalar x) with_result (length cells) (record { value = Int stored; count = 1 }) called items
+        (cells ++ holds stored ∷ []) top [] (length cells ∷ temps) names turns scalar_read found in
         scalar_set room writable
-        ∙ then_on (row_done StSet (Variable (retval_scalar x) ∷ int_literal 0 ∷ [])) (trees_of last) (behind (holds stored)) returns Void item
-        ∙ then_out (row_done XsReturn (int_literal 1 ∷ [])) (trees_of []) returns ended (Returns (length cells ∷ [])) (item_returned args with_result (length cells) called items (cells ++ holds stored ∷ []) top [] (length cells ∷ temps) names turns)
+        ∙ then_on (row_done StSet (Variable (retval_scalar x) ∷ int_literal 0 ∷ [])) (trees_of last) (after (holds stored)) returns Void item
+        ∙ then_out (row_done XsReturn (int_literal 1 ∷ [])) (trees_of []) returns ended (Returns (length cells ∷ []))
+        (item_returned args with_result (length cells) called items (cells ++ holds stored ∷ []) top [] (length cells ∷ temps) names turns)

@@ -2,20 +2,20 @@
 use Rattle.std.proofs.Common.{◌≡◌, ℕ, zero, suc, ◌+◌, ◌<◌, ◌||◌, Bool, true, false, not, cond, List, [], ◌∷◌, ◌++◌, codes, map, length, slice_get, Option, Some, None, refl, sym, ap, ◌∙◌, arith}
 use Rattle.std.proofs.lemmas.Bool.{and_parts, not-true, or_parts}
 use Rattle.std.proofs.lemmas.Slice.Eq.{bytes_eq-Decides}
-use Rattle.std.specs.List.{list_any}
+use Rattle.std.specs.List.{list_any, AllByRecursion as All}
 use Rattle.std.specs.Str.{bytes_eq}
 use Rattle.xs_base.specs.Names.{is_among}
 use Rattle.xs_iface.proofs.Noted.{same_both_ways}
 use Rattle.xs_iface.specs.declared.xsub.Param.{Param}
 use Rattle.xs_base.specs.Scanning.{is_identifier}
-use Rattle.std.specs.List.{AllByRecursion as All}
 use Rattle.xs_iface.specs.SumForm.{Differ}
-use Rattle.xs_iface.specs.Words.{is_free, is_reserved, reserved_words}
+use Rattle.xs_perlapi.specs.Table.{is_api_word}
+use Rattle.xs_iface.specs.ReservedWords.{is_free, is_reserved, reserved_words}
 use Rattle.xs_ccheck.specs.declared.code.ValueType.TheVariants.{Number, Scalar}
 use Rattle.xs_ccheck.specs.declared.resolve_names.Found.{Found}
 use Rattle.xs_ccheck.specs.declared.resolve_names.Local.{Local}
-use Rattle.xs_ctok.specs.Words.{interface_words, is_interface_word, is_key_word, is_no_name, result_words}
-use Rattle.xs_ccheck.specs.Typing.{place_from, variable_of}
+use Rattle.xs_ctok.specs.CWords.{interface_words, is_interface_word, is_key_word, is_no_name, result_words}
+use Rattle.xs_ccheck.specs.Typing.{index_from, variable_of}
 use Rattle.xs_stub.specs.Stub.{name_or_nothing}
 use Rattle.xs_values.specs.declared.kind.Kind.TheVariants.{I32}
 
@@ -30,8 +30,9 @@ same name = (bytes_eq-Decides name name).1 refl
 -- a word that is not reserved is no word of the XS interface and no variable of the glue's results
 own_word : (word : List ℕ) → is_reserved word ≡ false → (is_among interface_words word ≡ false) × (is_among result_words word ≡ false)
 own_word word h =
-    let key = (or_parts (is_key_word word) (is_among reserved_words word) h).0 in
-    or_parts (is_among interface_words word) (is_among result_words word) (or_parts (is_no_name word) (is_among interface_words word || is_among result_words word) key).1
+    let key = (or_parts (is_key_word word) (is_api_word word || is_among reserved_words word) h).0 in
+    or_parts (is_among interface_words word) (is_among result_words word)
+    (or_parts (is_no_name word) (is_among interface_words word || is_among result_words word) key).1
 
 pub no_interface_word : (word : List ℕ) → is_reserved word ≡ false → is_interface_word word ≡ false
 unfolding is_interface_word
@@ -85,7 +86,8 @@ passed_by : (v : Local) (all : List Local) (name : List ℕ) → bytes_eq v.name
 unfolding variable_of
 passed_by v all name h = ap (found_first v (variable_of all name)) h
 
-found_here : (v : Local) (all : List Local) (name : List ℕ) → bytes_eq v.name name ≡ true → variable_of (v ∷ all) name ≡ Some (record { of_type = v.of_type; slot = v.slot })
+found_here : (v : Local) (all : List Local) (name : List ℕ) → bytes_eq v.name name ≡ true
+    → variable_of (v ∷ all) name ≡ Some (record { of_type = v.of_type; slot = v.slot })
 unfolding variable_of
 found_here v all name h = ap (found_first v (variable_of all name)) h
 
@@ -96,33 +98,41 @@ pub none_found : (name : List ℕ) → variable_of [] name ≡ None
 unfolding variable_of
 none_found name = refl
 
-known_behind : (v : Local) (all : List Local) (slot : ℕ) (ps : List Param) → list_any (λ later. bytes_eq v.name later) (map (λ p. p.name) ps) ≡ false → Known all slot ps → Known (v ∷ all) slot ps
-known_behind v all slot [] h k = tt
-known_behind v all slot (p ∷ ps) h k =
+known_after : (v : Local) (all : List Local) (slot : ℕ) (ps : List Param) → list_any (λ later. bytes_eq v.name later) (map (λ p. p.name) ps) ≡ false
+    → Known all slot ps → Known (v ∷ all) slot ps
+known_after v all slot [] h k = tt
+known_after v all slot (p ∷ ps) h k =
     let each = or_parts (bytes_eq v.name p.name) _ h in
-    (passed_by v all p.name each.0 ∙ k.0, known_behind v all (slot + 1) ps each.1 k.1)
+    (passed_by v all p.name each.0 ∙ k.0, known_after v all (slot + 1) ps each.1 k.1)
 
 -- The variables of parameters that differ are all found.
-pub all_known : (slot : ℕ) (ps : List Param) (behind : List Local) → Differ (map (λ p. p.name) ps) → Known (locals_from slot ps ++ behind) slot ps
-all_known slot [] behind d = tt
-all_known slot (p ∷ ps) behind d =
-    (found_at_once (int_local p.name slot) (locals_from (slot + 1) ps ++ behind), known_behind (int_local p.name slot) (locals_from (slot + 1) ps ++ behind) (slot + 1) ps d.0 (all_known (slot + 1) ps behind d.1))
+pub all_known : (slot : ℕ) (ps : List Param) (after : List Local) → Differ (map (λ p. p.name) ps) → Known (locals_from slot ps ++ after) slot ps
+all_known slot [] after d = tt
+all_known slot (p ∷ ps) after d = (
+  found_at_once (int_local p.name slot) (locals_from (slot + 1) ps ++ after),
+  known_after (int_local p.name slot) (locals_from (slot + 1) ps ++ after)
+      (slot + 1) ps d.0 (all_known (slot + 1) ps after d.1),
+)
 
--- A word that names no parameter is looked up behind them.
-pub no_param : (word : List ℕ) (slot : ℕ) (ps : List Param) (behind : List Local) → All (λ p. bytes_eq p.name word ≡ false) ps → variable_of (locals_from slot ps ++ behind) word ≡ variable_of behind word
-no_param word slot [] behind h = refl
-no_param word slot (p ∷ ps) behind h = passed_by (int_local p.name slot) (locals_from (slot + 1) ps ++ behind) word h.0 ∙ no_param word (slot + 1) ps behind h.1
+-- A word that names no parameter is looked up after them.
+pub no_param : (word : List ℕ) (slot : ℕ) (ps : List Param) (after : List Local) → All (λ p. bytes_eq p.name word ≡ false) ps
+    → variable_of (locals_from slot ps ++ after) word ≡ variable_of after word
+no_param word slot [] after h = refl
+no_param word slot (p ∷ ps) after h = passed_by (int_local p.name slot) (locals_from (slot + 1) ps ++ after) word h.0 ∙ no_param word (slot + 1) ps after h.1
 
-none_after : (all : List Local) (v : Local) (name : List ℕ) → variable_of all name ≡ None → bytes_eq v.name name ≡ false → variable_of (all ++ v ∷ []) name ≡ None
+none_after : (all : List Local) (v : Local) (name : List ℕ) → variable_of all name ≡ None → bytes_eq v.name name ≡ false
+    → variable_of (all ++ v ∷ []) name ≡ None
 none_after [] v name h e = passed_by v [] name e ∙ none_found name
 none_after (w ∷ all) v name h e = by (bytes_eq w.name name) refl (none_after all v name)
   where
-    by : (b : Bool) → bytes_eq w.name name ≡ b → (variable_of all name ≡ None → bytes_eq v.name name ≡ false → variable_of (all ++ v ∷ []) name ≡ None) → variable_of ((w ∷ all) ++ v ∷ []) name ≡ None
+    by : (b : Bool) → bytes_eq w.name name ≡ b → (variable_of all name ≡ None → bytes_eq v.name name ≡ false → variable_of (all ++ v ∷ []) name ≡ None)
+        → variable_of ((w ∷ all) ++ v ∷ []) name ≡ None
     by true is then_none = absurd (let some : Some (record { of_type = w.of_type; slot = w.slot }) ≡ None = sym (found_here w all name is) ∙ h in cc)
     by false is then_none = passed_by w (all ++ v ∷ []) name is ∙ then_none (sym (passed_by w all name is) ∙ h) e
 
 -- A new variable makes no other name known.
-pub unknown_after : (all : List Local) (v : Local) (ps : List Param) → list_any (λ later. bytes_eq v.name later) (map (λ p. p.name) ps) ≡ false → Unknown all ps → Unknown (all ++ v ∷ []) ps
+pub unknown_after : (all : List Local) (v : Local) (ps : List Param) → list_any (λ later. bytes_eq v.name later) (map (λ p. p.name) ps) ≡ false → Unknown all ps
+    → Unknown (all ++ v ∷ []) ps
 unknown_after all v [] h k = tt
 unknown_after all v (p ∷ ps) h k =
     let each = or_parts (bytes_eq v.name p.name) _ h in
@@ -133,7 +143,8 @@ none_known [] = tt
 none_known (p ∷ ps) = (none_found p.name, none_known ps)
 
 -- the parameter at a place
-pub known_at : (variables : List Local) (slot at : ℕ) (ps : List Param) → Known variables slot ps → at < length ps → variable_of variables (name_or_nothing (slice_get ps at)) ≡ Some (int_at (slot + at))
+pub known_at : (variables : List Local) (slot at : ℕ) (ps : List Param) → Known variables slot ps → at < length ps
+    → variable_of variables (name_or_nothing (slice_get ps at)) ≡ Some (int_at (slot + at))
 known_at variables slot at [] k h = absurd (let none : at < 0 = h in omega arith)
 known_at variables slot zero (p ∷ ps) k h = k.0 ∙ ap (λ n. Some (int_at n)) (omega arith)
 known_at variables slot (suc at) (p ∷ ps) k h = known_at variables (slot + 1) at ps k.1 (omega arith) ∙ ap (λ n. Some (int_at n)) (omega arith)
@@ -141,23 +152,25 @@ known_at variables slot (suc at) (p ∷ ps) k h = known_at variables (slot + 1) 
 -- ---- functions
 
 -- Each of these names is found, at the places in their order.
-abbrev pub PlacedFrom : ℕ → List (List ℕ) → ℕ → List (List ℕ) → Type 0
-PlacedFrom first names at [] = Unit {0}
-PlacedFrom first names at (n ∷ ns) = (place_from first names n ≡ Some at) × PlacedFrom first names (at + 1) ns
+abbrev pub IndexedFrom : ℕ → List (List ℕ) → ℕ → List (List ℕ) → Type 0
+IndexedFrom first names at [] = Unit {0}
+IndexedFrom first names at (n ∷ ns) = (index_from first names n ≡ Some at) × IndexedFrom first names (at + 1) ns
 
-placed_behind : (first : ℕ) (name : List ℕ) (names : List (List ℕ)) (at : ℕ) (ns : List (List ℕ)) → list_any (λ later. bytes_eq name later) ns ≡ false → PlacedFrom (first + 1) names at ns → PlacedFrom first (name ∷ names) at ns
-placed_behind first name names at [] h k = tt
-placed_behind first name names at (n ∷ ns) h k =
+indexed_after : (first : ℕ) (name : List ℕ) (names : List (List ℕ)) (at : ℕ) (ns : List (List ℕ)) → list_any (λ later. bytes_eq name later) ns ≡ false
+    → IndexedFrom (first + 1) names at ns → IndexedFrom first (name ∷ names) at ns
+indexed_after first name names at [] h k = tt
+indexed_after first name names at (n ∷ ns) h k =
     let each = or_parts (bytes_eq name n) _ h in
-    (ap (λ b. cond b (Some first) (place_from (first + 1) names n)) each.0 ∙ k.0, placed_behind first name names (at + 1) ns each.1 k.1)
+    (ap (λ b. cond b (Some first) (index_from (first + 1) names n)) each.0 ∙ k.0, indexed_after first name names (at + 1) ns each.1 k.1)
 
 -- Names that differ are all found.
-pub all_placed : (first : ℕ) (ns : List (List ℕ)) → Differ ns → PlacedFrom first ns first ns
-all_placed first [] d = tt
-all_placed first (n ∷ ns) d =
-    (ap (λ b. cond b (Some first) (place_from (first + 1) ns n)) (same n), placed_behind first n ns (first + 1) ns d.0 (all_placed (first + 1) ns d.1))
+pub all_indexed : (first : ℕ) (ns : List (List ℕ)) → Differ ns → IndexedFrom first ns first ns
+all_indexed first [] d = tt
+all_indexed first (n ∷ ns) d =
+    (ap (λ b. cond b (Some first) (index_from (first + 1) ns n)) (same n), indexed_after first n ns (first + 1) ns d.0 (all_indexed (first + 1) ns d.1))
 
-any_after : (name last : List ℕ) (ns : List (List ℕ)) → list_any (λ later. bytes_eq name later) ns ≡ false → bytes_eq name last ≡ false → list_any (λ later. bytes_eq name later) (ns ++ last ∷ []) ≡ false
+any_after : (name last : List ℕ) (ns : List (List ℕ)) → list_any (λ later. bytes_eq name later) ns ≡ false → bytes_eq name last ≡ false
+    → list_any (λ later. bytes_eq name later) (ns ++ last ∷ []) ≡ false
 any_after name last [] h e = ap (λ b. b || false) e
 any_after name last (n ∷ ns) h e =
     let each = or_parts (bytes_eq name n) _ h in

@@ -3,39 +3,42 @@ use Rattle.std.proofs.Common.{◌≡◌, ℕ, ◌+◌, ◌≤◌, ◌^◌, true,
 use Rattle.std.proofs.lemmas.Bool.Decides.{nat_tests}
 use Rattle.xs_csyn.specs.declared.tree.BinaryOp.TheVariants as c
 use Rattle.xs_csyn.specs.declared.tree.PerlForm.TheVariants as form
-use Rattle.xs_csyn.specs.Tree as syntax
-use Rattle.xs_csyn.specs.Tree.{ExprTree, StmtTree, stmts_of}
-use Rattle.xs_iface.specs.declared.terms.TheConstants.{INT_MAX}
+use Rattle.xs_csyn.specs.SyntaxTree as syntax
+use Rattle.xs_csyn.specs.SyntaxTree.{ExprTree, StmtTree, stmts_of}
+use Rattle.xs_iface.specs.Paragraph.{greatest_int}
 use Rattle.xs_iface.specs.declared.xsub.Param.{Param}
 use Rattle.xs_iface.specs.declared.xsub.Term.{Term}
 use Rattle.xs_iface.specs.declared.xsub.Term.TheVariants.{Literal, Parameter}
 use Rattle.xs_iface.specs.declared.xsub.Xsub.{Xsub}
 use Rattle.std.specs.List.{AllByRecursion as All}
 use Rattle.xs_iface.specs.SumForm.{Differ, IsTermOf}
-use Rattle.xs_iface.specs.Words.{is_free}
+use Rattle.xs_iface.specs.ReservedWords.{is_free}
 use Rattle.xs_ccheck.specs.declared.code.ValueType.{ValueType}
 use Rattle.xs_ccheck.specs.declared.code.ValueType.TheVariants.{Number, Scalar, Void}
 use Rattle.xs_ccheck.specs.declared.resolve_names.Local.{Local}
-use Rattle.xs_ccheck.specs.Tree as code
-use Rattle.xs_ccheck.specs.Tree.{StRead, SvIv, SvNewMortal, SvSetIv, StSet, XsReturn, XsReturnYes, CroakUsage, NewXs, Tree, Variable, ItemCount, Assign, Binary, Convert, Forget}
-use Rattle.xs_ctok.specs.Words.{is_interface_word}
-use Rattle.xs_ccheck.specs.Typing.{Scope, behind_block, done, expr, is_taken, literal, literal_kind, operator_of, perl, place_from, place_of, row_named, stmt, stmts, type_named, typed, variable_of, with_variable}
+use Rattle.xs_ccheck.specs.TypedTree as code
+use Rattle.xs_perlapi.specs.declared.row.Row.TheVariants.{StRead, SvIv, SvNewMortal, SvSetIv, StSet, XsReturn, XsReturnYes}
+use Rattle.xs_ccheck.specs.TypedTree.{CroakUsage, Register, Tree, Variable, ItemCount, Assign, Binary, Convert, Forget}
+use Rattle.xs_ctok.specs.CWords.{is_interface_word}
+use Rattle.xs_perlapi.specs.Table.{api_words, row_named}
+use Rattle.xs_ccheck.specs.Typing.{Scope, after_block, done, expr, is_in_use, literal, literal_kind, operator_of, perl, index_from, index_of, stmt, stmts, type_named, typed, variable_of, with_variable}
 use Rattle.xs_stub.specs.Intended as intended
 use Rattle.xs_stub.specs.Intended.{call_of, declared_param, int_argument, int_type, inputs_from, iv_type, registration, return_one, returned_value, sum_of, sv_pointer, usage_test}
 use Rattle.xs_stub.specs.Stub.{joined_names, name_or_nothing}
 use Rattle.xs_values.proofs.Wrapping.{wrapped_value-held}
 use Rattle.xs_values.specs.declared.kind.Kind.TheVariants.{I32, I64, U64}
 use Rattle.xs_values.specs.Numbers.{wrapped}
-use Rattle.xs_call.specs.GlueCode.{assign_int, assign_scalar, block_of, declarations, inputs, int_literal, nothing_done, registrations, row_done, row_of, sum_on, sum_tree, term_tree, trees_of}
-use Rattle.xs_call.proofs.Numbers.{in_range}
-use Rattle.xs_call.proofs.TypedNames.{Known, PlacedFrom, Unknown, int_at, int_local, known_at, scalar_at, no_interface_word, not_reserved, unknown_after}
+use Rattle.xs_call.specs.GlueCode.{declarations, inputs, registrations, sum_on, sum_tree, term_tree}
+use Rattle.xs_sim.specs.TreeBuilders.{assign_int, assign_scalar, block_of, int_literal, nothing_done, row_done, row_of, trees_of}
+use Rattle.xs_sim.proofs.IntNumbers.{in_range}
+use Rattle.xs_call.proofs.TypedNames.{Known, IndexedFrom, Unknown, int_at, int_local, known_at, scalar_at, no_interface_word, not_reserved, unknown_after}
 
 -- ---- numbers
 
-int_kind : (v : ℕ) → v ≤ INT_MAX → literal_kind v ≡ I32
+int_kind : (v : ℕ) → v ≤ greatest_int → literal_kind v ≡ I32
 int_kind v h = let small : nat_lt v 2147483648 ≡ true = grind (arith, nat_tests) in ap (λ b. cond b I32 (cond (nat_lt v (2 ^ 63)) I64 U64)) small
 
-literal_typed : (v : ℕ) → v ≤ INT_MAX → literal v ≡ typed (int_literal v) (Number I32)
+literal_typed : (v : ℕ) → v ≤ greatest_int → literal v ≡ typed (int_literal v) (Number I32)
 literal_typed v h =
     ap (λ k. typed (code.Literal (wrapped k (pos v))) (Number k)) (int_kind v h)
     ∙ ap (λ z. typed (code.Literal (record { kind = I32; value = z })) (Number I32)) (wrapped_value-held I32 (pos v) (in_range v h))
@@ -43,11 +46,12 @@ literal_typed v h =
 -- ---- expressions
 
 module _ (variables : List Local) where
-  number_typed : (line v : ℕ) → v ≤ INT_MAX → expr variables (syntax.Num line v) ≡ typed (int_literal v) (Number I32)
+  number_typed : (line v : ℕ) → v ≤ greatest_int → expr variables (syntax.Num line v) ≡ typed (int_literal v) (Number I32)
   unfolding expr
   number_typed line v h = literal_typed v h
 
-  name_typed : (line : ℕ) (name : List ℕ) (slot : ℕ) (t : ValueType) → variable_of variables name ≡ Some (record { of_type = t; slot = slot }) → expr variables (syntax.Var line name) ≡ typed (Variable slot) t
+  name_typed : (line : ℕ) (name : List ℕ) (slot : ℕ) (t : ValueType) → variable_of variables name ≡ Some (record { of_type = t; slot = slot })
+      → expr variables (syntax.Var line name) ≡ typed (Variable slot) t
   unfolding expr
   name_typed line name slot t h = rw h refl
 
@@ -55,87 +59,106 @@ module _ (variables : List Local) where
   unfolding expr
   items_typed line h = rw h refl
 
-  sum_typed : (line : ℕ) (a b : ExprTree) (t u : Tree) → expr variables a ≡ typed t (Number I32) → expr variables b ≡ typed u (Number I32) → expr variables (syntax.Two line c.Add a b) ≡ typed (Binary (operator_of c.Add) t u) (Number I32)
+  sum_typed : (line : ℕ) (a b : ExprTree) (t u : Tree) → expr variables a ≡ typed t (Number I32) → expr variables b ≡ typed u (Number I32)
+      → expr variables (syntax.Two line c.Add a b) ≡ typed (Binary (operator_of c.Add) t u) (Number I32)
   unfolding expr
   sum_typed line a b t u h k = rw (h, k) refl
 
-  differ_typed : (line : ℕ) (a b : ExprTree) (t u : Tree) → expr variables a ≡ typed t (Number I32) → expr variables b ≡ typed u (Number I32) → expr variables (syntax.Two line c.NotEqual a b) ≡ typed (Binary (operator_of c.NotEqual) t u) (Number I32)
+  differ_typed : (line : ℕ) (a b : ExprTree) (t u : Tree) → expr variables a ≡ typed t (Number I32) → expr variables b ≡ typed u (Number I32)
+      → expr variables (syntax.Two line c.NotEqual a b) ≡ typed (Binary (operator_of c.NotEqual) t u) (Number I32)
   unfolding expr
   differ_typed line a b t u h k = rw (h, k) refl
 
-  item_typed : (line : ℕ) (a : ExprTree) (t : Tree) → expr variables a ≡ typed t (Number I32) → expr variables (call_of line (codes "ST") (a ∷ [])) ≡ typed (row_of StRead (t ∷ [])) Scalar
-  unfolding expr row_named
+  item_typed : (line : ℕ) (a : ExprTree) (t : Tree) → expr variables a ≡ typed t (Number I32) → expr variables (call_of line (codes "ST") (a ∷ []))
+      ≡ typed (row_of StRead (t ∷ [])) Scalar
+  unfolding expr row_named api_words
   item_typed line a t h = rw h refl
 
-  number_of_typed : (line : ℕ) (a : ExprTree) (t : Tree) → expr variables a ≡ typed t Scalar → expr variables (call_of line (codes "SvIV") (a ∷ [])) ≡ typed (row_of SvIv (t ∷ [])) (Number I64)
-  unfolding expr row_named
+  number_of_typed : (line : ℕ) (a : ExprTree) (t : Tree) → expr variables a ≡ typed t Scalar → expr variables (call_of line (codes "SvIV") (a ∷ []))
+      ≡ typed (row_of SvIv (t ∷ [])) (Number I64)
+  unfolding expr row_named api_words
   number_of_typed line a t h = rw h refl
 
-  as_int_typed : (line : ℕ) (a : ExprTree) (t : Tree) → expr variables a ≡ typed t (Number I64) → expr variables (syntax.Cast line int_type a) ≡ typed (Convert I32 t) (Number I32)
+  as_int_typed : (line : ℕ) (a : ExprTree) (t : Tree) → expr variables a ≡ typed t (Number I64) → expr variables (syntax.Cast line int_type a)
+      ≡ typed (Convert I32 t) (Number I32)
   unfolding expr type_named
   as_int_typed line a t h = rw h refl
 
-  as_iv_typed : (line : ℕ) (a : ExprTree) (t : Tree) → expr variables a ≡ typed t (Number I32) → expr variables (syntax.Cast line iv_type a) ≡ typed (Convert I64 t) (Number I64)
+  as_iv_typed : (line : ℕ) (a : ExprTree) (t : Tree) → expr variables a ≡ typed t (Number I32) → expr variables (syntax.Cast line iv_type a)
+      ≡ typed (Convert I64 t) (Number I64)
   unfolding expr type_named
   as_iv_typed line a t h = rw h refl
 
-  argument_typed : (line place : ℕ) → place ≤ INT_MAX → expr variables (int_argument line place) ≡ typed (Convert I32 (row_of SvIv (row_of StRead (int_literal place ∷ []) ∷ []))) (Number I32)
+  argument_typed : (line place : ℕ) → place ≤ greatest_int
+      → expr variables (int_argument line place) ≡ typed (Convert I32 (row_of SvIv (row_of StRead (int_literal place ∷ []) ∷ []))) (Number I32)
   argument_typed line place h = as_int_typed line _ _ (number_of_typed line _ _ (item_typed line _ _ (number_typed line place h)))
 
-  int_set : (line : ℕ) (name : List ℕ) (slot : ℕ) (a : ExprTree) (t : Tree) → variable_of variables name ≡ Some (int_at slot) → expr variables a ≡ typed t (Number I32) → expr variables (syntax.Set line (syntax.VarPlace line name) a) ≡ typed (Assign slot (Number I32) t) (Number I32)
+  int_set : (line : ℕ) (name : List ℕ) (slot : ℕ) (a : ExprTree) (t : Tree) → variable_of variables name ≡ Some (int_at slot)
+      → expr variables a ≡ typed t (Number I32) → expr variables (syntax.Set line (syntax.VarPlace line name) a)
+      ≡ typed (Assign slot (Number I32) t) (Number I32)
   unfolding expr
   int_set line name slot a t h k = rw (h, k) refl
 
-  scalar_set : (line : ℕ) (name : List ℕ) (slot : ℕ) (a : ExprTree) (t : Tree) → variable_of variables name ≡ Some (scalar_at slot) → expr variables a ≡ typed t Scalar → expr variables (syntax.Set line (syntax.VarPlace line name) a) ≡ typed (Assign slot Scalar t) Scalar
+  scalar_set : (line : ℕ) (name : List ℕ) (slot : ℕ) (a : ExprTree) (t : Tree) → variable_of variables name ≡ Some (scalar_at slot)
+      → expr variables a ≡ typed t Scalar → expr variables (syntax.Set line (syntax.VarPlace line name) a) ≡ typed (Assign slot Scalar t) Scalar
   unfolding expr
   scalar_set line name slot a t h k = rw (h, k) refl
 
   mortal_typed : (line : ℕ) → expr variables (call_of line (codes "sv_newmortal") []) ≡ typed (row_of SvNewMortal []) Scalar
-  unfolding expr row_named
+  unfolding expr row_named api_words
   mortal_typed line = refl
 
-  number_put : (line : ℕ) (a b : ExprTree) (t u : Tree) → expr variables a ≡ typed t Scalar → expr variables b ≡ typed u (Number I64) → expr variables (call_of line (codes "sv_setiv") (a ∷ b ∷ [])) ≡ typed (row_of SvSetIv (t ∷ u ∷ [])) Void
-  unfolding expr row_named
+  number_put : (line : ℕ) (a b : ExprTree) (t u : Tree) → expr variables a ≡ typed t Scalar → expr variables b ≡ typed u (Number I64)
+      → expr variables (call_of line (codes "sv_setiv") (a ∷ b ∷ [])) ≡ typed (row_of SvSetIv (t ∷ u ∷ [])) Void
+  unfolding expr row_named api_words
   number_put line a b t u h k = rw (h, k) refl
 
-  item_put : (line : ℕ) (a b : ExprTree) (t u : Tree) → expr variables a ≡ typed t (Number I32) → expr variables b ≡ typed u Scalar → expr variables (syntax.Set line (syntax.StPlace line a) b) ≡ typed (row_of StSet (u ∷ t ∷ [])) Scalar
+  item_put : (line : ℕ) (a b : ExprTree) (t u : Tree) → expr variables a ≡ typed t (Number I32) → expr variables b ≡ typed u Scalar
+      → expr variables (syntax.Set line (syntax.StPlace line a) b) ≡ typed (row_of StSet (u ∷ t ∷ [])) Scalar
   unfolding expr
   item_put line a b t u h k = rw (h, k) refl
 
-  return_typed : (line : ℕ) (a : ExprTree) (t : Tree) → expr variables a ≡ typed t (Number I32) → expr variables (call_of line (codes "XSRETURN") (a ∷ [])) ≡ typed (row_of XsReturn (t ∷ [])) Void
-  unfolding expr row_named
+  return_typed : (line : ℕ) (a : ExprTree) (t : Tree) → expr variables a ≡ typed t (Number I32) → expr variables (call_of line (codes "XSRETURN") (a ∷ []))
+      ≡ typed (row_of XsReturn (t ∷ [])) Void
+  unfolding expr row_named api_words
   return_typed line a t h = rw h refl
 
-  usage_typed : (line : ℕ) (text : List ℕ) → expr variables (call_of line (codes "croak_xs_usage") (syntax.Var line (codes "cv") ∷ syntax.Str line text ∷ [])) ≡ typed (row_of (CroakUsage text) []) Void
+  usage_typed : (line : ℕ) (text : List ℕ) → expr variables (call_of line (codes "croak_xs_usage") (syntax.Var line (codes "cv") ∷ syntax.Str line text ∷ []))
+      ≡ typed (CroakUsage text) Void
   unfolding expr
   usage_typed line text = refl
 
   -- ---- sums
 
-  term_typed : (ps : List Param) (line : ℕ) (t : Term) → Known variables 0 ps → IsTermOf (length ps) t → expr variables (intended.term_tree ps line t) ≡ typed (term_tree t) (Number I32)
-  term_typed ps line (Parameter at) k h = name_typed line (name_or_nothing (slice_get ps at)) at (Number I32) (known_at variables 0 at ps k h ∙ ap (λ n. Some (int_at n)) (omega arith))
+  term_typed : (ps : List Param) (line : ℕ) (t : Term) → Known variables 0 ps → IsTermOf (length ps) t → expr variables (intended.term_tree ps line t)
+      ≡ typed (term_tree t) (Number I32)
+  term_typed ps line (Parameter at) k h = name_typed line (name_or_nothing (slice_get ps at)) at (Number I32) (known_at variables 0 at ps k h
+      ∙ ap (λ n. Some (int_at n)) (omega arith))
   term_typed ps line (Literal v) k h = number_typed line v h
 
-  terms_typed : (ps : List Param) (line : ℕ) (a : ExprTree) (so_far : Tree) (ts : List Term) → Known variables 0 ps → All (IsTermOf (length ps)) ts → expr variables a ≡ typed so_far (Number I32)
+  terms_typed : (ps : List Param) (line : ℕ) (a : ExprTree) (so_far : Tree) (ts : List Term) → Known variables 0 ps → All (IsTermOf (length ps)) ts
+      → expr variables a ≡ typed so_far (Number I32)
       → expr variables (fold (λ sum term. syntax.Two line c.Add sum (intended.term_tree ps line term)) a ts) ≡ typed (sum_on so_far ts) (Number I32)
   terms_typed ps line a so_far [] k hs h = h
   terms_typed ps line a so_far (t ∷ ts) k hs h = terms_typed ps line _ _ ts k hs.1 (sum_typed line a _ so_far (term_tree t) h (term_typed ps line t k hs.0))
 
 -- ---- lists of statements
 
--- the scope behind the variables of parameters
+-- the scope after the variables of parameters
 abbrev pub with_params : Scope → List Param → Scope
 with_params at [] = at
 with_params at (p ∷ ps) = with_params (with_variable at p.name (Number I32)) ps
 
--- From a scope on these statements become these trees, and the scope behind them is this.
+-- From a scope on these statements become these trees, and the scope after them is this.
 pub data Becomes (names : List (List ℕ)) : Scope → List StmtTree → List Tree → Scope → Type 0 where
   Nothing : {at : Scope} → Becomes names at [] [] at
-  Then : {at next end : Scope} {s : StmtTree} {t : Tree} {more : List StmtTree} {ts : List Tree} → stmt names at s ≡ done next t → Becomes names next more ts end → Becomes names at (s ∷ more) (t ∷ ts) end
+  Then : {at next end : Scope} {s : StmtTree} {t : Tree} {more : List StmtTree} {ts : List Tree} → stmt names at s ≡ done next t
+      → Becomes names next more ts end → Becomes names at (s ∷ more) (t ∷ ts) end
 
-pub not_taken : (variables : List Local) (name : List ℕ) → is_interface_word name ≡ false → variable_of variables name ≡ None → is_taken variables name ≡ false
-unfolding is_taken
-not_taken variables name h k = rw (h, k) refl
+pub not_in_use : (variables : List Local) (name : List ℕ) → is_interface_word name ≡ false → variable_of variables name ≡ None
+    → is_in_use variables name ≡ false
+unfolding is_in_use
+not_in_use variables name h k = rw (h, k) refl
 
 module _ (names : List (List ℕ)) where
   pub become : {at end : Scope} {all : List StmtTree} {ts : List Tree} → Becomes names at all ts end → stmts names at (stmts_of all) ≡ done end (trees_of ts)
@@ -143,38 +166,46 @@ module _ (names : List (List ℕ)) where
   become Nothing = refl
   become (Then first more) = rw (first, become more) refl
 
-  pub joined : {at next end : Scope} {all more : List StmtTree} {ts us : List Tree} → Becomes names at all ts next → Becomes names next more us end → Becomes names at (all ++ more) (ts ++ us) end
+  pub joined : {at next end : Scope} {all more : List StmtTree} {ts us : List Tree} → Becomes names at all ts next → Becomes names next more us end
+      → Becomes names at (all ++ more) (ts ++ us) end
   joined Nothing b = b
   joined (Then first a) b = Then first (joined a b)
 
-  effect : (at : Scope) (line : ℕ) (a : ExprTree) (t : Tree) (ty : ValueType) → expr at.variables a ≡ typed t ty → stmt names at (syntax.Effect line a) ≡ done at (Forget t)
+  effect : (at : Scope) (line : ℕ) (a : ExprTree) (t : Tree) (ty : ValueType) → expr at.variables a ≡ typed t ty
+      → stmt names at (syntax.Effect line a) ≡ done at (Forget t)
   unfolding stmt
   effect at line a t ty h = rw h refl
 
-  pub block : (at : Scope) (line : ℕ) (all : List StmtTree) (ts : List Tree) (end : Scope) → Becomes names at all ts end → stmt names at (syntax.Block line (stmts_of all)) ≡ done (behind_block at end) (block_of ts)
+  pub block : (at : Scope) (line : ℕ) (all : List StmtTree) (ts : List Tree) (end : Scope) → Becomes names at all ts end
+      → stmt names at (syntax.Block line (stmts_of all)) ≡ done (after_block at end) (block_of ts)
   unfolding stmt
   block at line all ts end b = rw (become b) refl
 
   -- ---- declarations
 
-  pub int_declared : (at : Scope) (line : ℕ) (name : List ℕ) → is_taken at.variables name ≡ false → stmt names at (syntax.Declare line int_type name) ≡ done (with_variable at name (Number I32)) (code.Declare at.slots)
+  pub int_declared : (at : Scope) (line : ℕ) (name : List ℕ) → is_in_use at.variables name ≡ false → stmt names at (syntax.Declare line int_type name)
+      ≡ done (with_variable at name (Number I32)) (code.Declare at.slots)
   unfolding stmt type_named
   int_declared at line name h = rw h refl
 
-  pub scalar_declared : (at : Scope) (line : ℕ) (name : List ℕ) → is_taken at.variables name ≡ false → stmt names at (syntax.Declare line sv_pointer name) ≡ done (with_variable at name Scalar) (code.Declare at.slots)
+  pub scalar_declared : (at : Scope) (line : ℕ) (name : List ℕ) → is_in_use at.variables name ≡ false → stmt names at (syntax.Declare line sv_pointer name)
+      ≡ done (with_variable at name Scalar) (code.Declare at.slots)
   unfolding stmt type_named
   scalar_declared at line name h = rw h refl
 
-  pub params_declared : (at : Scope) (line : ℕ) (ps : List Param) → All (λ p. is_free p.name ≡ true) ps → Differ (map (λ p. p.name) ps) → Unknown at.variables ps
+  pub params_declared : (at : Scope) (line : ℕ) (ps : List Param) → All (λ p. is_free p.name ≡ true) ps → Differ (map (λ p. p.name) ps)
+      → Unknown at.variables ps
       → Becomes names at (map (declared_param line) ps) (declarations at.slots ps) (with_params at ps)
   params_declared at line [] free differ unknown = Nothing
   params_declared at line (p ∷ ps) free differ unknown =
-      Then (int_declared at line p.name (not_taken at.variables p.name (no_interface_word p.name (not_reserved p.name free.0)) unknown.0))
-      (params_declared (with_variable at p.name (Number I32)) line ps free.1 differ.1 (unknown_after at.variables (int_local p.name at.slots) ps differ.0 unknown.1))
+      Then (int_declared at line p.name (not_in_use at.variables p.name (no_interface_word p.name (not_reserved p.name free.0)) unknown.0))
+      (params_declared (with_variable at p.name (Number I32)) line ps free.1 differ.1
+      (unknown_after at.variables (int_local p.name at.slots) ps differ.0 unknown.1))
 
   -- ---- inputs
 
-  pub inputs_become : (at : Scope) (place : ℕ) (ps : List Param) → Known at.variables place ps → place + length ps ≤ INT_MAX → Becomes names at (inputs_from place ps) (inputs place ps) at
+  pub inputs_become : (at : Scope) (place : ℕ) (ps : List Param) → Known at.variables place ps → place + length ps ≤ greatest_int
+      → Becomes names at (inputs_from place ps) (inputs place ps) at
   inputs_become at place [] known few = Nothing
   inputs_become at place (p ∷ ps) known few =
       Then (effect at p.line _ _ _ (int_set at.variables p.line p.name place _ _ known.0 (argument_typed at.variables p.line place (omega arith))))
@@ -182,39 +213,49 @@ module _ (names : List (List ℕ)) where
 
   -- ---- the argument test, the sum and the result
 
-  tested : (at : Scope) (line : ℕ) (test : ExprTree) (then_do : StmtTree) (t u : Tree) → expr at.variables test ≡ typed t (Number I32) → stmt names at then_do ≡ done at u → stmt names at (syntax.If line test then_do) ≡ done at (code.If t u nothing_done)
+  tested : (at : Scope) (line : ℕ) (test : ExprTree) (then_do : StmtTree) (t u : Tree) → expr at.variables test ≡ typed t (Number I32)
+      → stmt names at then_do ≡ done at u → stmt names at (syntax.If line test then_do) ≡ done at (code.If t u nothing_done)
   unfolding stmt
   tested at line test then_do t u h k = rw (h, k) refl
 
-  pub usage_becomes : (at : Scope) (line : ℕ) (ps : List Param) → variable_of at.variables (codes "items") ≡ None → length ps ≤ INT_MAX
-      → stmt names at (usage_test line ps) ≡ done at (code.If (Binary (operator_of c.NotEqual) ItemCount (int_literal (length ps))) (row_done (CroakUsage (joined_names ps)) []) nothing_done)
+  pub usage_becomes : (at : Scope) (line : ℕ) (ps : List Param) → variable_of at.variables (codes "items") ≡ None → length ps ≤ greatest_int
+      → stmt names at (usage_test line ps)
+      ≡ done at (code.If (Binary (operator_of c.NotEqual) ItemCount (int_literal (length ps))) (Forget (CroakUsage (joined_names ps))) nothing_done)
   usage_becomes at line ps none few =
       tested at line _ _ _ _
       (differ_typed at.variables line _ _ _ _ (items_typed at.variables line none) (number_typed at.variables line (length ps) few))
       (effect at line _ _ _ (usage_typed at.variables line (joined_names ps)))
 
   -- RETVAL at a slot gets the sum.
-  pub sum_becomes : (at : Scope) (line slot : ℕ) (ps : List Param) (sum : List Term) (first : Term) (more : List Term) → variable_of at.variables (codes "RETVAL") ≡ Some (int_at slot) → Known at.variables 0 ps
+  pub sum_becomes : (at : Scope) (line slot : ℕ) (ps : List Param) (sum : List Term) (first : Term) (more : List Term)
+      → variable_of at.variables (codes "RETVAL") ≡ Some (int_at slot) → Known at.variables 0 ps
       → sum ≡ first ∷ more → All (IsTermOf (length ps)) sum → Becomes names at (sum_of ps line sum) (assign_int slot (sum_tree sum) ∷ []) at
   sum_becomes at line slot ps [] first more retval known e terms = absurd cc
   sum_becomes at line slot ps (t ∷ ts) first more retval known e terms =
-      Then (effect at line _ _ _ (int_set at.variables line (codes "RETVAL") slot _ _ retval (terms_typed at.variables ps line _ _ ts known terms.1 (term_typed at.variables ps line t known terms.0)))) Nothing
+      Then (effect at line _ _ _
+      (int_set at.variables line (codes "RETVAL") slot _ _ retval
+      (terms_typed at.variables ps line _ _ ts known terms.1 (term_typed at.variables ps line t known terms.0)))) Nothing
 
-  pub value_becomes : (at : Scope) (line slot scalar : ℕ) → variable_of at.variables (codes "RETVAL") ≡ Some (int_at slot) → variable_of at.variables (codes "RETVALSV") ≡ Some (scalar_at scalar)
-      → Becomes names at (returned_value line) (assign_scalar scalar (row_of SvNewMortal []) ∷ row_done SvSetIv (Variable scalar ∷ Convert I64 (Variable slot) ∷ []) ∷ []) at
+  pub value_becomes : (at : Scope) (line slot scalar : ℕ) → variable_of at.variables (codes "RETVAL") ≡ Some (int_at slot)
+      → variable_of at.variables (codes "RETVALSV") ≡ Some (scalar_at scalar)
+      → Becomes names at (returned_value line) (assign_scalar scalar (row_of SvNewMortal [])
+      ∷ row_done SvSetIv (Variable scalar ∷ Convert I64 (Variable slot) ∷ []) ∷ []) at
   value_becomes at line slot scalar h k =
       Then (effect at line _ _ _ (scalar_set at.variables line (codes "RETVALSV") scalar _ _ k (mortal_typed at.variables line)))
-      (Then (effect at line _ _ _ (number_put at.variables line _ _ _ _ (name_typed at.variables line (codes "RETVALSV") scalar Scalar k) (as_iv_typed at.variables line _ _ (name_typed at.variables line (codes "RETVAL") slot (Number I32) h)))) Nothing)
+      (Then (effect at line _ _ _ (number_put at.variables line _ _ _ _ (name_typed at.variables line (codes "RETVALSV") scalar Scalar k)
+      (as_iv_typed at.variables line _ _ (name_typed at.variables line (codes "RETVAL") slot (Number I32) h)))) Nothing)
 
   pub return_becomes : (at : Scope) (line scalar : ℕ) → variable_of at.variables (codes "RETVALSV") ≡ Some (scalar_at scalar)
       → Becomes names at (return_one line) (row_done StSet (Variable scalar ∷ int_literal 0 ∷ []) ∷ row_done XsReturn (int_literal 1 ∷ []) ∷ []) at
   return_becomes at line scalar k =
-      Then (effect at line _ _ _ (item_put at.variables line _ _ _ _ (number_typed at.variables line 0 (omega arith)) (name_typed at.variables line (codes "RETVALSV") scalar Scalar k)))
+      Then (effect at line _ _ _ (item_put at.variables line _ _ _ _ (number_typed at.variables line 0 (omega arith))
+      (name_typed at.variables line (codes "RETVALSV") scalar Scalar k)))
       (Then (effect at line _ _ _ (return_typed at.variables line _ _ (number_typed at.variables line 1 (omega arith)))) Nothing)
 
   -- ---- the boot function
 
-  registered : (at : Scope) (line place : ℕ) (x : Xsub) → at.in_boot ≡ true → place_of names x.glue ≡ Some place → stmt names at (registration line x) ≡ done at (row_done (NewXs x.full place) [])
+  registered : (at : Scope) (line place : ℕ) (x : Xsub) → at.in_boot ≡ true → index_of names x.glue ≡ Some place
+      → stmt names at (registration line x) ≡ done at (Forget (Register x.full place))
   unfolding stmt perl
   registered at line place x h k = rw (k, h) refl
 
@@ -222,11 +263,12 @@ module _ (names : List (List ℕ)) where
   unfolding stmt perl
   returned_yes at line = refl
 
-  pub placed : (name : List ℕ) (at : ℕ) → place_from 0 names name ≡ Some at → place_of names name ≡ Some at
-  unfolding place_of
-  placed name at h = h
+  pub indexed : (name : List ℕ) (at : ℕ) → index_from 0 names name ≡ Some at → index_of names name ≡ Some at
+  unfolding index_of
+  indexed name at h = h
 
-  pub registrations_become : (at : Scope) (line place : ℕ) (xs : List Xsub) → at.in_boot ≡ true → PlacedFrom 0 names place (map (λ x. x.glue) xs)
+  pub registrations_become : (at : Scope) (line place : ℕ) (xs : List Xsub) → at.in_boot ≡ true → IndexedFrom 0 names place (map (λ x. x.glue) xs)
       → Becomes names at (map (registration line) xs ++ syntax.Perl line form.XsReturnYes ∷ []) (registrations place xs) at
   registrations_become at line place [] boot all = Then (returned_yes at line) Nothing
-  registrations_become at line place (x ∷ xs) boot all = Then (registered at line place x boot (placed x.glue place all.0)) (registrations_become at line (place + 1) xs boot all.1)
+  registrations_become at line place (x ∷ xs) boot all =
+      Then (registered at line place x boot (indexed x.glue place all.0)) (registrations_become at line (place + 1) xs boot all.1)

@@ -1,47 +1,21 @@
--- The resolved trees of a module's glue: what its glue text says once names are slots and each node has its type.
-use Rattle.std.specs.Prelude.{pos, ℕ, ◌+◌, true, false, List, [], ◌∷◌, ◌++◌, fold, length, map, codes}
+-- The resolved trees of a module's glue: what its glue text is once names are slots and each node
+-- has its type.
+use Rattle.xs_perlapi.specs.declared.row.Row.TheVariants.{Entry, StSet, SvNewMortal, SvSetIv, XsReturn, XsReturnYes}
+use Rattle.std.specs.Prelude.{ℕ, ◌+◌, true, false, List, [], ◌∷◌, ◌++◌, fold, length, map, codes}
 use Rattle.xs_iface.specs.Iface.{underscored}
 use Rattle.xs_iface.specs.declared.xsub.Module.{Module}
 use Rattle.xs_iface.specs.declared.xsub.Param.{Param}
 use Rattle.xs_iface.specs.declared.xsub.Term.{Term}
 use Rattle.xs_iface.specs.declared.xsub.Term.TheVariants as term
 use Rattle.xs_iface.specs.declared.xsub.Xsub.{Xsub}
-use Rattle.xs_ccheck.specs.declared.code.ValueType.TheVariants.{Number, Scalar}
-use Rattle.xs_ccheck.specs.Tree.{Row, Entry, StRead, SvIv, SvNewMortal, SvSetIv, StSet, XsReturn, XsReturnYes, CroakUsage, NewXs, Tree, Literal, Variable, ItemCount, Assign, Binary, Convert, ApiRow, Block, If, Forget, Declare, Trees, NoTrees, MoreTrees, Function, Code}
+use Rattle.xs_ccheck.specs.TypedTree.{CroakUsage, Register, Tree, Variable, ItemCount, Binary, Convert, If, Forget, Declare, Function, Code}
+use Rattle.xs_sim.specs.TreeBuilders.{block_of, row_done, int_literal, assign_int, assign_scalar, nothing_done, row_of, item_as_int}
 use Rattle.xs_stub.specs.Stub.{joined_names}
-use Rattle.xs_values.specs.declared.kind.Kind.TheVariants.{I32, I64}
+use Rattle.xs_values.specs.declared.kind.Kind.TheVariants.{I64}
 use Rattle.xs_values.specs.declared.operator.Op.TheVariants.{Add, NotEqual}
 
-abbrev pub trees_of : List Tree → Trees
-trees_of [] = NoTrees
-trees_of (t ∷ ts) = MoreTrees t (trees_of ts)
-
-abbrev pub block_of : List Tree → Tree
-block_of statements = Block (trees_of statements)
-
--- a row with its operands, and the same as a statement
-abbrev pub row_of : Row → List Tree → Tree
-row_of r operands = ApiRow r (trees_of operands)
-
-abbrev pub row_done : Row → List Tree → Tree
-row_done r operands = Forget (row_of r operands)
-
--- a literal of type `int`
-abbrev pub int_literal : ℕ → Tree
-int_literal n = Literal (record { kind = I32; value = pos n })
-
--- An assignment to a variable of type `int`, and to one of type `SV *`.
-abbrev pub assign_int : ℕ → Tree → Tree
-assign_int slot e = Forget (Assign slot (Number I32) e)
-
-abbrev pub assign_scalar : ℕ → Tree → Tree
-assign_scalar slot e = Forget (Assign slot Scalar e)
-
--- what is run where an `if` without `else` has a condition that does not hold
-abbrev pub nothing_done : Tree
-nothing_done = block_of []
-
--- ---- the glue function of an XSUB: its parameters have the first slots in their order, then RETVAL and RETVALSV
+-- ---- the glue function of an XSUB: its parameters have the first slots in their order, then
+-- RETVAL and RETVALSV
 
 abbrev pub retval : Xsub → ℕ
 retval x = length x.params
@@ -51,7 +25,9 @@ retval_scalar x = length x.params + 1
 
 -- the argument test
 abbrev pub argument_test : Xsub → Tree
-argument_test x = If (Binary NotEqual ItemCount (int_literal (length x.params))) (row_done (CroakUsage (joined_names x.params)) []) nothing_done
+argument_test x =
+    If (Binary NotEqual ItemCount (int_literal (length x.params)))
+    (Forget (CroakUsage (joined_names x.params))) nothing_done
 
 -- a declaration for each parameter, counted from a slot
 abbrev pub declarations : ℕ → List Param → List Tree
@@ -60,7 +36,7 @@ declarations slot (p ∷ ps) = Declare slot ∷ declarations (slot + 1) ps
 
 -- `(int)SvIV(ST(place))` is assigned to the parameter's variable
 abbrev pub input : ℕ → Tree
-input place = assign_int place (Convert I32 (row_of SvIv (row_of StRead (int_literal place ∷ []) ∷ [])))
+input place = assign_int place (item_as_int place)
 
 abbrev pub inputs : ℕ → List Param → List Tree
 inputs place [] = []
@@ -88,25 +64,34 @@ end x =
     ∷ []
 
 abbrev pub work : Xsub → List Tree
-work x = declarations 0 x.params ++ Declare (retval x) ∷ Declare (retval_scalar x) ∷ inputs 0 x.params ++ assign_int (retval x) (sum_tree x.sum) ∷ end x
+work x = declarations 0 x.params ++ Declare (retval x) ∷ Declare (retval_scalar x)
+    ∷ inputs 0 x.params ++ assign_int (retval x) (sum_tree x.sum) ∷ end x
 
 abbrev pub xsub_body : Xsub → Tree
 xsub_body x = block_of (row_done Entry [] ∷ argument_test x ∷ block_of (work x) ∷ [])
 
 abbrev pub xsub_function : Xsub → Function
-xsub_function x = record { name = x.glue; is_boot = false; slots = length x.params + 2; body = xsub_body x }
+xsub_function x =
+    record { name = x.glue; is_boot = false; slots = length x.params + 2; body = xsub_body x }
 
--- ---- the boot function: it registers the functions of the XSUBs, which come in order, under their full names
+-- ---- the boot function: it registers the functions of the XSUBs, which come in order, under their
+-- full names
 
 abbrev pub registrations : ℕ → List Xsub → List Tree
 registrations function [] = row_done XsReturnYes [] ∷ []
-registrations function (x ∷ xs) = row_done (NewXs x.full function) [] ∷ registrations (function + 1) xs
+registrations function (x ∷ xs) =
+    Forget (Register x.full function) ∷ registrations (function + 1) xs
 
 abbrev pub boot_body : List Xsub → Tree
 boot_body xs = block_of (row_done Entry [] ∷ registrations 0 xs)
 
 abbrev pub boot_function : Module → Function
-boot_function m = record { name = codes "boot_" ++ underscored m.boot; is_boot = true; slots = 0; body = boot_body m.xsubs }
+boot_function m = record {
+  name = codes "boot_" ++ underscored m.boot;
+  is_boot = true;
+  slots = 0;
+  body = boot_body m.xsubs;
+}
 
 abbrev pub functions_on : Function → List Xsub → List Function
 functions_on last xs = map xsub_function xs ++ last ∷ []

@@ -1,23 +1,23 @@
--- The headline: the glue of a module, run by the counted machine, tells what the module's interface declares, and it leaves nothing behind.
+-- The headline: the glue of a module, run by the counted machine, does what the module's interface
+-- declares, and it leaves nothing after.
 use Rattle.std.specs.Prelude.{◌≡◌, ⊤, List, [], ◌∷◌, length, Option, None, Some}
-use Rattle.xs_call.specs.declared.calls.CallCommand.{CallCommand}
-use Rattle.xs_call.specs.declared.running.TheConstants.{TURNS}
+use Rattle.xs_meaning.specs.declared.call_command.CallCommand.{CallCommand}
+use Rattle.xs_call.specs.MachineTranscript.{most_turns, boot_report, end_of, machine_transcript}
 use Rattle.xs_call.specs.GlueCode.{glue_code}
-use Rattle.xs_call.specs.Meaning as declared
-use Rattle.xs_call.specs.Meaning.{Store, declared_transcript, new_store}
-use Rattle.xs_call.specs.Running as running
-use Rattle.xs_call.specs.Running.{boot_told, end_of, machine_transcript}
-use Rattle.xs_call.specs.Transcript.{Told}
+use Rattle.xs_meaning.specs.DeclaredMeaning as declared
+use Rattle.xs_meaning.specs.DeclaredMeaning.{Store, declared_transcript, new_store}
+use Rattle.xs_call.specs.MachineTranscript as running
+use Rattle.xs_meaning.specs.Transcript.{Report}
 use Rattle.xs_iface.specs.SumForm.{IsSumModule}
 use Rattle.xs_iface.specs.declared.xsub.Module.{Module}
 use Rattle.xs_machine.specs.Machine.{Mach, booted, loaded}
-use Rattle.xs_ccheck.specs.Tree.{Code}
+use Rattle.xs_ccheck.specs.TypedTree.{Code}
 use Rattle.xs_api.specs.World.{World, live_of}
 
 -- ---- the machine
 
--- What holds of the machine between two commands: no work is pending, all stacks are empty, no counted scalar lives, and the next name is
--- the one that the declared store gives next.
+-- What holds of the machine between two commands: no work is pending, all stacks are empty, no
+-- counted scalar lives, and the next name is the one that the declared store gives next.
 pub record IsExact (m : Mach World) (store : Store) : Type 0 where
   pub no_work : m.pending ≡ []
   pub no_arguments : m.state.store.args ≡ []
@@ -36,28 +36,34 @@ BothGoOn holds None (Some store) = ⊥
 BothGoOn holds (Some m) None = ⊥
 
 -- both runs go on, the machine exact, and what follows holds; or both end
-abbrev pub exact_behind : Option (Mach World) → Option Store → (Mach World → Store → Type 0) → Type 0
-exact_behind machine store after = BothGoOn (λ m s. IsExact m s × after m s) machine store
+abbrev pub exact_after : Option (Mach World) → Option Store → (Mach World → Store → Type 0) → Type 0
+exact_after machine store after = BothGoOn (λ m s. IsExact m s × after m s) machine store
 
 -- the machine is exact after each command that goes on
 abbrev pub exact_along : Module → Code → Mach World → Store → List CallCommand → Type 0
 exact_along m code machine store [] = ⊤
-exact_along m code machine store (c ∷ cs) = exact_behind (running.told_call code machine c).next (declared.told_call m store c).next (λ machine1 store1. exact_along m code machine1 store1 cs)
+exact_along m code machine store (c ∷ cs) =
+    exact_after (running.call_report code machine c).next (declared.call_report m store c).next
+    (λ machine1 store1. exact_along m code machine1 store1 cs)
 
--- the boot and what it tells
-abbrev pub booted_told : Code → Told (Mach World)
-booted_told code = boot_told (end_of (booted code TURNS loaded).stopped) (booted code TURNS loaded)
+-- the report of the boot
+abbrev pub booted_report : Code → Report (Mach World)
+booted_report code =
+    boot_report (end_of (booted code most_turns loaded).stopped) (booted code most_turns loaded)
 
 -- the machine is exact after the boot, and after each command that goes on
 unfoldable pub ExactAfter : Module → Code → List CallCommand → Type 0
-ExactAfter m code cs = exact_behind (booted_told code).next (Some new_store) (λ machine store. exact_along m code machine store cs)
+ExactAfter m code cs =
+    exact_after (booted_report code).next (Some new_store)
+    (λ machine store. exact_along m code machine store cs)
 
 -- ---- the laws
 
--- The glue, as resolved trees, tells what the interface declares.
+-- The glue, as resolved trees, does what the interface declares.
 abbrev pub RunsAsDeclared : Type 0
-RunsAsDeclared = (m : Module) → IsSumModule m → (cs : List CallCommand) → machine_transcript (glue_code m) loaded cs ≡ declared_transcript m cs
+RunsAsDeclared = (m : Module) → IsSumModule m → (cs : List CallCommand)
+    → machine_transcript (glue_code m) loaded cs ≡ declared_transcript m cs
 
--- The machine that runs the glue leaves nothing behind a command.
+-- The machine that runs the glue leaves nothing after a command.
 abbrev pub StaysExact : Type 0
 StaysExact = (m : Module) → IsSumModule m → (cs : List CallCommand) → ExactAfter m (glue_code m) cs

@@ -1,10 +1,7 @@
-pub mod Calls
-pub mod Transcript
-pub mod Meaning
-pub mod Running
-pub mod Runs
+pub mod BuiltCalls
+pub mod MachineTranscript
+pub mod Reports
 pub mod GlueCode
 pub mod Headline
-pub mod Built
-pub mod Resolved
-pub mod Job
+pub mod Jobs
+pub mod Laws

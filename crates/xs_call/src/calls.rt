@@ -1,23 +1,14 @@
 //! The commands that can be run so far: calls in list form with whole numbers that an IV holds.
 ghost use Rattle.std.specs.Prelude.{◌≡◌, IfOk, map};
 ghost use Rattle.xs_base.specs.Reading.{Gives};
-ghost use Rattle.xs_call.specs.Calls.{call_said, call_with, calls_said, int_of, ints_of, not_built_at};
-ghost use Rattle.xs_script.specs.Expr.{Num};
-ghost use Rattle.xs_script.specs.View.{plain, said};
+ghost use Rattle.xs_call.specs.BuiltCalls.{call_of_command, call_with, calls_of_commands, int_of, ints_of, not_built_at};
+ghost use Rattle.xs_script.specs.CommandTree.{Num};
+ghost use Rattle.xs_script.specs.CommandViews.{expr_view, command_view};
 
 use std::alloc::Global;
 use xs_base::{Bytes, Fault, FileOf, Items, Memory, Refuse};
+use xs_meaning::CallCommand;
 use xs_script::{Command, E, Number};
-
-/// A call of an XSUB in list form.
-#[derive(Debug, Drop)]
-pub struct CallCommand {
-    /// The line of the command.
-    pub line: u32,
-    /// The name that is called.
-    pub sub: Bytes,
-    pub args: Items<i64>,
-}
 
 // A number that an IV holds.
 fn signed(number: Number) -> Option<i64>
@@ -30,9 +21,9 @@ fn signed(number: Number) -> Option<i64>
 }
 
 // The number that an expression is, if it is one that an IV holds.
-#[tactic(auto, using(xs_script::proofs::Views::views))]
+#[tactic(auto, using(xs_script::proofs::ValueViews::views))]
 fn int_value(e: &E) -> Option<i64>
-    ensures { result ≡ int_of (plain e.now) }
+    ensures { result ≡ int_of (expr_view e.now) }
 {
     match e {
         E::Number(number) => signed(*number),
@@ -47,7 +38,7 @@ fn int_value(e: &E) -> Option<i64>
 }
 
 fn int_values(alloc: Global, es: &[E]) -> Result<Option<Items<i64>>, Memory>
-    ensures { IfOk result (λ numbers. numbers ≡ ints_of (map plain es.now)) }
+    ensures { IfOk result (λ numbers. numbers ≡ ints_of (map expr_view es.now)) }
 {
     let mut numbers = Items::new(alloc);
     for e in es {
@@ -67,7 +58,7 @@ fn not_built_at(alloc: Global, line: u32) -> Refuse
 }
 
 fn call_with(alloc: Global, line: u32, sub: &Bytes, args: &[E]) -> Result<CallCommand, Refuse>
-    ensures { Gives result (call_with line sub.now (ints_of (map plain args.now))) }
+    ensures { Gives result (call_with line sub.now (ints_of (map expr_view args.now))) }
 {
     let Some(args) = int_values(alloc, args)? else {
         return Err(not_built_at(alloc, line));
@@ -80,7 +71,7 @@ fn call_with(alloc: Global, line: u32, sub: &Bytes, args: &[E]) -> Result<CallCo
 }
 
 fn plain_call(alloc: Global, command: &Command) -> Result<CallCommand, Refuse>
-    ensures { Gives result (call_said (said command.now)) }
+    ensures { Gives result (call_of_command (command_view command.now)) }
 {
     match command {
         Command::Call(line, sub, args) => Ok(call_with(alloc, *line, sub, args.as_slice())?),
@@ -95,8 +86,8 @@ fn plain_call(alloc: Global, command: &Command) -> Result<CallCommand, Refuse>
 }
 
 /// The calls of a script, or the refusal of its first command of another form.
-pub fn plain_calls(alloc: Global, commands: &[Command]) -> Result<Items<CallCommand>, Refuse>
-    ensures { Gives result (calls_said (map said commands.now)) }
+pub fn built_calls(alloc: Global, commands: &[Command]) -> Result<Items<CallCommand>, Refuse>
+    ensures { Gives result (calls_of_commands (map command_view commands.now)) }
 {
     let mut calls = Items::new(alloc);
     for command in commands {

@@ -1,11 +1,10 @@
 //! The jobs of `check`, `compile` and `call`.
 ghost use Rattle.std.specs.Prelude.{◌-◌, ◌^◌, ◌<◌, IfOk, Ok, length};
 ghost use Rattle.xs_base.specs.Reading.{Gives};
-ghost use Rattle.xs_call.specs.Job.{call_of, check_of, compile_of, module_in, text_transcript};
+ghost use Rattle.xs_call.specs.Jobs.{call_of, check_of, compile_of, module_in, text_transcript};
 ghost use Rattle.xs_stub.specs.Stub.{glue_text};
 
-use crate::built::expect_built;
-use crate::calls::{CallCommand, plain_calls};
+use crate::calls::built_calls;
 use crate::running::transcript;
 use std::alloc::Global;
 use xs_base::{Bytes, FileOf, Refuse};
@@ -13,24 +12,24 @@ use xs_ccheck::check_file;
 use xs_csyn::read_file;
 use xs_iface::{Module, read_module};
 use xs_machine::Machine;
+use xs_meaning::CallCommand;
 use xs_script::read_script;
 use xs_sections::split;
 use xs_stub::write_glue;
 
 // The module of an XS file, or the first fault of the file.
-#[tactic(auto, unfolding(crate::specs::Job::module_in))]
+#[tactic(auto, unfolding(crate::specs::Jobs::module_in))]
 fn module_in(alloc: Global, xs: &Bytes) -> Result<Module, Refuse>
     requires { length xs.now < 2 ^ 32 - 1 }
     ensures { Gives result (module_in xs.now) }
 {
     let sections = split(alloc, xs)?;
-    expect_built(alloc, &sections)?;
     let m = read_module(alloc, &sections)?;
     Ok(m)
 }
 
-/// Whether an XS file is taken: its first fault comes where it is not.
-#[tactic(auto, unfolding(crate::specs::Job::check_of))]
+/// Whether an XS file is accepted: its first fault comes where it is not.
+#[tactic(auto, unfolding(crate::specs::Jobs::check_of))]
 pub fn check(alloc: Global, xs: &Bytes) -> Result<(), Refuse>
     requires { length xs.now < 2 ^ 32 - 1 }
     ensures { Gives result (check_of xs.now) }
@@ -39,8 +38,9 @@ pub fn check(alloc: Global, xs: &Bytes) -> Result<(), Refuse>
     Ok(())
 }
 
-/// The glue text of an XS file: the C by which Perl calls its XSUBs. The first fault of the file comes where it has one.
-#[tactic(auto, unfolding(crate::specs::Job::compile_of))]
+/// The glue text of an XS file: the C by which Perl calls its XSUBs. The first fault of the file
+/// comes where it has one.
+#[tactic(auto, unfolding(crate::specs::Jobs::compile_of))]
 pub fn compile(alloc: Global, xs: &Bytes) -> Result<Bytes, Refuse>
     requires { length xs.now < 2 ^ 32 - 1 }
     ensures { Gives result (compile_of xs.now) }
@@ -62,11 +62,11 @@ fn glue_of(alloc: Global, m: &Module) -> Result<Bytes, Refuse>
     Ok(text)
 }
 
-/// The transcript of a script's calls of the XSUBs of an XS file. The glue text is written, read back, and run by the machine;
-/// what comes of it is the declared meaning of the calls.
+/// The transcript of a script's calls of the XSUBs of an XS file. The glue text is written, read
+/// back, and run by the machine; what comes of it is the declared meaning of the calls.
 ///
 /// The first fault of the XS file decides, then that of the script.
-#[tactic(auto, using(crate::proofs::Join::call_gives), unfolding(crate::specs::Job::call_of))]
+#[tactic(auto, using(crate::proofs::JobsJoin::call_gives), unfolding(crate::specs::Jobs::call_of))]
 pub fn call(alloc: Global, xs: &Bytes, script: &Bytes) -> Result<Bytes, Refuse>
     requires xs { length xs.now < 2 ^ 32 - 1 }
     requires script { length script.now < 2 ^ 32 - 1 }
@@ -74,9 +74,9 @@ pub fn call(alloc: Global, xs: &Bytes, script: &Bytes) -> Result<Bytes, Refuse>
 {
     let m = module_in(alloc, xs)?;
     let commands = read_script(alloc, script)?;
-    let calls = plain_calls(alloc, commands.as_slice())?;
-    let told = run_glue(alloc, &m, calls.as_slice())?;
-    Ok(told)
+    let calls = built_calls(alloc, commands.as_slice())?;
+    let reported = run_glue(alloc, &m, calls.as_slice())?;
+    Ok(reported)
 }
 
 // The transcript of the C text that is written for a module.
@@ -84,12 +84,12 @@ fn run_glue(alloc: Global, m: &Module, calls: &[CallCommand]) -> Result<Bytes, R
     ensures { Gives result (text_transcript (glue_text m.now) calls.now) }
 {
     let text = glue_of(alloc, m)?;
-    let told = run_text(alloc, &text, calls)?;
-    Ok(told)
+    let reported = run_text(alloc, &text, calls)?;
+    Ok(reported)
 }
 
 // The transcript of a C text.
-#[tactic(auto, unfolding(crate::specs::Job::text_transcript))]
+#[tactic(auto, unfolding(crate::specs::Jobs::text_transcript))]
 fn run_text(alloc: Global, text: &Bytes, calls: &[CallCommand]) -> Result<Bytes, Refuse>
     requires { length text.now < 2 ^ 32 - 1 }
     ensures { Gives result (text_transcript text.now calls.now) }
@@ -97,6 +97,6 @@ fn run_text(alloc: Global, text: &Bytes, calls: &[CallCommand]) -> Result<Bytes,
     let file = read_file(alloc, text, FileOf::Text)?;
     let typed = check_file(alloc, file)?;
     let mut machine = Machine::load(alloc, typed)?;
-    let told = transcript(alloc, &mut machine, calls)?;
-    Ok(told)
+    let reported = transcript(alloc, &mut machine, calls)?;
+    Ok(reported)
 }

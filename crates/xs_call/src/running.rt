@@ -1,23 +1,22 @@
-//! A C text is run on the calls of a script, and each command is told.
+//! A C text is run on the calls of a script, and each command is reported.
 ghost use Rattle.std.specs.Prelude.{◌≡◌, ◌≢◌, ◌++◌, ◌∷◌, [], Err, IfOk, OnErr, OnOk, false, true};
-ghost use Rattle.xs_call.specs.Running.{boot_told, end_of, machine_transcript, settled_told, show_cell, told_call, told_end};
-ghost use Rattle.xs_call.specs.Runs.{IsTold, MakesArguments};
-ghost use Rattle.xs_call.specs.Transcript.{Croaked, Returned, arg_line, arg_lines, calls_told, end_lines, in_front, item_line, item_lines, live_line};
+ghost use Rattle.xs_call.specs.MachineTranscript.{boot_report, end_of, machine_transcript, most_turns, settled_report, show_cell, call_report, report_at_end};
+ghost use Rattle.xs_call.specs.Reports.{IsReported, MakesArguments};
+ghost use Rattle.xs_meaning.specs.Transcript.{Croaked, Returned, arg_line, arg_lines, calls_report, end_lines, in_front, item_line, item_lines, live_line};
 ghost use Rattle.xs_machine.specs.Machine.{booted};
 ghost use Rattle.xs_api.specs.declared.api.Stop.TheVariants as stop;
-ghost use Rattle.xs_machine.specs.Views.{MakesArgument, code_in, mach_of, pending_of};
+ghost use Rattle.xs_machine.specs.MachineViews.{MakesArgument, code_in, mach_of, pending_of};
 ghost use Rattle.xs_api.specs.World.{live_of};
 ghost use Rattle.xs_values.specs.declared.plain.Plain.TheVariants as plain;
 
-use crate::calls::CallCommand;
-use crate::lines::{
-    arg_line, call_text, croaked_text, item_line, live_line, own_trap_text, returned_text,
-    trapped_text,
-};
 use std::alloc::Global;
 use xs_api::{Depths, Stop};
 use xs_base::{Bytes, Items, Memory};
 use xs_machine::{Machine, Outcome};
+use xs_meaning::{
+    CallCommand, arg_line, call_text, croaked_text, item_line, live_line, own_trap_text,
+    returned_text, trapped_text,
+};
 use xs_script::value_text;
 use xs_values::{Name, Plain};
 
@@ -42,7 +41,8 @@ fn write_items(
     args: &[Name],
     items: &[Name],
 ) -> Result<Bytes, Memory>
-    ensures { IfOk result (λ text. text ≡ item_lines (show_cell (mach_of machine.now).state.store.cells) args.now 0 items.now) }
+    ensures { IfOk result (λ text. text
+        ≡ item_lines (show_cell (mach_of machine.now).state.store.cells) args.now 0 items.now) }
 {
     let mut text = Bytes::new(alloc);
     let mut place = 0;
@@ -54,7 +54,7 @@ fn write_items(
     Ok(text)
 }
 
-#[tactic(auto, unfolding(crate::specs::Transcript::item_line))]
+#[tactic(auto, unfolding(xs_meaning::specs::Transcript::item_line))]
 fn write_item(
     alloc: Global,
     machine: &Machine,
@@ -62,7 +62,8 @@ fn write_item(
     place: usize,
     item: Name,
 ) -> Result<Bytes, Memory>
-    ensures { IfOk result (λ line. line ≡ item_line (show_cell (mach_of machine.now).state.store.cells) args.now place item) }
+    ensures { IfOk result (λ line. line
+        ≡ item_line (show_cell (mach_of machine.now).state.store.cells) args.now place item) }
 {
     let value = shown(alloc, machine, item)?;
     item_line(alloc, &value, args, place, item)
@@ -71,7 +72,8 @@ fn write_item(
 // A line for each argument.
 #[tactic(auto, using(std::proofs::Common::append_assoc))]
 fn write_args(alloc: Global, machine: &Machine, args: &[Name]) -> Result<Bytes, Memory>
-    ensures { IfOk result (λ text. text ≡ arg_lines (show_cell (mach_of machine.now).state.store.cells) 0 args.now) }
+    ensures { IfOk result (λ text. text
+        ≡ arg_lines (show_cell (mach_of machine.now).state.store.cells) 0 args.now) }
 {
     let mut text = Bytes::new(alloc);
     let mut place = 0;
@@ -83,9 +85,10 @@ fn write_args(alloc: Global, machine: &Machine, args: &[Name]) -> Result<Bytes, 
     Ok(text)
 }
 
-#[tactic(auto, unfolding(crate::specs::Transcript::arg_line))]
+#[tactic(auto, unfolding(xs_meaning::specs::Transcript::arg_line))]
 fn write_arg(alloc: Global, machine: &Machine, place: usize, arg: Name) -> Result<Bytes, Memory>
-    ensures { IfOk result (λ line. line ≡ arg_line (show_cell (mach_of machine.now).state.store.cells) place arg) }
+    ensures { IfOk result (λ line. line
+        ≡ arg_line (show_cell (mach_of machine.now).state.store.cells) place arg) }
 {
     let value = shown(alloc, machine, arg)?;
     arg_line(alloc, &value, place)
@@ -93,7 +96,8 @@ fn write_arg(alloc: Global, machine: &Machine, place: usize, arg: Name) -> Resul
 
 // One argument, a new temporary.
 fn int_argument(machine: &mut Machine, value: i64) -> Result<Name, Stop>
-    ensures made { MakesArgument (plain.Int value) (mach_of machine.old) result (mach_of machine.new) }
+    ensures made { MakesArgument (plain.Int value) (mach_of machine.old) result
+        (mach_of machine.new) }
     ensures code { code_in machine.new ≡ code_in machine.old }
 {
     machine.make_argument(Plain::Int(value))
@@ -121,29 +125,30 @@ fn make_arguments(alloc: Global, machine: &mut Machine, values: &[i64]) -> Resul
     Ok(names)
 }
 
-// What a command tells, and whether the script goes on behind it.
+// What is reported of a command, and whether the script goes on after it.
 #[derive(Debug, Drop)]
-struct Telling {
+struct Reported {
     text: Bytes,
     goes_on: bool,
 }
 
-// The temporaries of a call are freed, and what lives is told.
-fn tell_settled(alloc: Global, machine: &mut Machine) -> Result<Telling, Memory>
+// The temporaries of a call are freed, and what lives is reported.
+fn report_settled(alloc: Global, machine: &mut Machine) -> Result<Reported, Memory>
     requires { pending_of machine.old ≡ [] }
-    ensures told { IfOk result (λ t. IsTold (settled_told (mach_of machine.old)) t (mach_of machine.new)) }
+    ensures reported { IfOk result (λ t. IsReported (settled_report (mach_of machine.old)) t
+        (mach_of machine.new)) }
     ensures idle { pending_of machine.new ≡ [] }
     ensures code { code_in machine.new ≡ code_in machine.old }
 {
     let depths = machine.depths();
     match machine.settle() {
-        Outcome::Returned(_) => tell_live(alloc, machine, depths),
-        Outcome::Croaked(_) => tell_live(alloc, machine, depths),
-        Outcome::Trapped(trap) => Ok(Telling {
+        Outcome::Returned(_) => report_live(alloc, machine, depths),
+        Outcome::Croaked(_) => report_live(alloc, machine, depths),
+        Outcome::Trapped(trap) => Ok(Reported {
             text: own_trap_text(alloc, trap)?,
             goes_on: false,
         }),
-        Outcome::Spent => Ok(Telling {
+        Outcome::Spent => Ok(Reported {
             text: Bytes::new(alloc),
             goes_on: false,
         }),
@@ -151,26 +156,31 @@ fn tell_settled(alloc: Global, machine: &mut Machine) -> Result<Telling, Memory>
     }
 }
 
-fn tell_live(alloc: Global, machine: &Machine, depths: Depths) -> Result<Telling, Memory>
-    ensures { IfOk result (λ t. (t.text ≡ live_line (live_of (mach_of machine.now).state.store.cells) depths.marks depths.scopes) × (t.goes_on ≡ true)) }
+fn report_live(alloc: Global, machine: &Machine, depths: Depths) -> Result<Reported, Memory>
+    ensures { IfOk result
+        (λ t. (t.text
+        ≡ live_line (live_of (mach_of machine.now).state.store.cells) depths.marks depths.scopes)
+        × (t.goes_on ≡ true)) }
 {
-    Ok(Telling {
+    Ok(Reported {
         text: live_line(alloc, machine.live(), depths.marks, depths.scopes)?,
         goes_on: true,
     })
 }
 
-// The lines in front, and then what is told when the temporaries are freed.
-fn tell_behind(alloc: Global, machine: &mut Machine, front: Bytes) -> Result<Telling, Memory>
+// The lines in front, and then what is reported when the temporaries are freed.
+fn report_after(alloc: Global, machine: &mut Machine, front: Bytes) -> Result<Reported, Memory>
     requires { pending_of machine.old ≡ [] }
-    ensures told { IfOk result (λ t. IsTold (in_front front (settled_told (mach_of machine.old))) t (mach_of machine.new)) }
+    ensures reported { IfOk result
+        (λ t. IsReported (in_front front (settled_report (mach_of machine.old))) t
+        (mach_of machine.new)) }
     ensures idle { pending_of machine.new ≡ [] }
     ensures code { code_in machine.new ≡ code_in machine.old }
 {
     let mut text = front;
-    let rest = tell_settled(alloc, machine)?;
+    let rest = report_settled(alloc, machine)?;
     text.append(rest.text.as_slice())?;
-    Ok(Telling {
+    Ok(Reported {
         text,
         goes_on: rest.goes_on,
     })
@@ -185,7 +195,9 @@ fn write_returned(
     args: &[Name],
     items: &[Name],
 ) -> Result<Bytes, Memory>
-    ensures { IfOk result (λ text. text ≡ head ++ end_lines (show_cell (mach_of machine.now).state.store.cells) args.now (Returned items.now)) }
+    ensures { IfOk result (λ text. text
+        ≡ head ++ end_lines (show_cell (mach_of machine.now).state.store.cells) args.now
+        (Returned items.now)) }
 {
     let mut text = head;
     text.append(returned_text(alloc, items.len())?.as_slice())?;
@@ -203,7 +215,9 @@ fn write_croaked(
     args: &[Name],
     croak: &Bytes,
 ) -> Result<Bytes, Memory>
-    ensures { IfOk result (λ text. text ≡ head ++ end_lines (show_cell (mach_of machine.now).state.store.cells) args.now (Croaked croak.now)) }
+    ensures { IfOk result (λ text. text
+        ≡ head ++ end_lines (show_cell (mach_of machine.now).state.store.cells) args.now
+        (Croaked croak.now)) }
 {
     let mut text = head;
     text.append(croaked_text(alloc, croak)?.as_slice())?;
@@ -212,28 +226,30 @@ fn write_croaked(
 }
 
 // The last line of a script that a call ended.
-fn tell_last(head: Bytes, line: &[u8]) -> Result<Telling, Memory>
+fn report_last(head: Bytes, line: &[u8]) -> Result<Reported, Memory>
     ensures { IfOk result (λ t. (t.text ≡ head ++ line.now) × (t.goes_on ≡ false)) }
 {
     let mut text = head;
     text.append(line)?;
-    Ok(Telling {
+    Ok(Reported {
         text,
         goes_on: false,
     })
 }
 
 // How a call ended, with its arguments.
-#[tactic(auto, unfolding(crate::specs::Transcript::spent_text))]
-fn tell_end(
+#[tactic(auto, unfolding(xs_meaning::specs::Transcript::spent_text))]
+fn report_end(
     alloc: Global,
     machine: &mut Machine,
     head: Bytes,
     args: &[Name],
     outcome: Outcome,
-) -> Result<Telling, Memory>
+) -> Result<Reported, Memory>
     requires { pending_of machine.old ≡ [] }
-    ensures told { IfOk result (λ t. IsTold (told_end head args.now (end_of outcome) (mach_of machine.old)) t (mach_of machine.new)) }
+    ensures reported { IfOk result
+        (λ t. IsReported (report_at_end head args.now (end_of outcome) (mach_of machine.old)) t
+        (mach_of machine.new)) }
     ensures some { OnOk result (outcome ≢ Outcome.Memory) }
     ensures idle { pending_of machine.new ≡ [] }
     ensures code { code_in machine.new ≡ code_in machine.old }
@@ -241,22 +257,24 @@ fn tell_end(
     match outcome {
         Outcome::Returned(items) => {
             let front = write_returned(alloc, machine, head, args, items.as_slice())?;
-            tell_behind(alloc, machine, front)
+            report_after(alloc, machine, front)
         }
         Outcome::Croaked(text) => {
             let front = write_croaked(alloc, machine, head, args, &text)?;
-            tell_behind(alloc, machine, front)
+            report_after(alloc, machine, front)
         }
-        Outcome::Trapped(trap) => tell_last(head, trapped_text(alloc, trap)?.as_slice()),
-        Outcome::Spent => tell_last(head, b" spent\n"),
+        Outcome::Trapped(trap) => report_last(head, trapped_text(alloc, trap)?.as_slice()),
+        Outcome::Spent => report_last(head, b" spent\n"),
         Outcome::Memory => Err(Memory),
     }
 }
 
-// A call: its arguments are made, the function is run, and its end is told.
-fn tell_call(alloc: Global, machine: &mut Machine, c: &CallCommand) -> Result<Telling, Memory>
+// A call: its arguments are made, the function is run, and its end is reported.
+fn report_call(alloc: Global, machine: &mut Machine, c: &CallCommand) -> Result<Reported, Memory>
     requires { pending_of machine.old ≡ [] }
-    ensures told { IfOk result (λ t. IsTold (told_call (code_in machine.old) (mach_of machine.old) c.now) t (mach_of machine.new)) }
+    ensures reported { IfOk result
+        (λ t. IsReported (call_report (code_in machine.old) (mach_of machine.old) c.now) t
+        (mach_of machine.new)) }
     ensures idle { OnOk result (pending_of machine.new ≡ []) }
     ensures code { code_in machine.new ≡ code_in machine.old }
 {
@@ -264,9 +282,9 @@ fn tell_call(alloc: Global, machine: &mut Machine, c: &CallCommand) -> Result<Te
         Ok(names) => {
             let outcome = machine.call(&c.sub, names.as_slice(), TURNS);
             let head = call_text(alloc, c)?;
-            tell_end(alloc, machine, head, names.as_slice(), outcome)
+            report_end(alloc, machine, head, names.as_slice(), outcome)
         }
-        Err(Stop::Trap(trap)) => Ok(Telling {
+        Err(Stop::Trap(trap)) => Ok(Reported {
             text: own_trap_text(alloc, trap)?,
             goes_on: false,
         }),
@@ -276,30 +294,36 @@ fn tell_call(alloc: Global, machine: &mut Machine, c: &CallCommand) -> Result<Te
 
 // The calls of a script, up to the one that ends it.
 #[tactic(auto, using(std::proofs::Common::append_assoc))]
-fn tell_calls(
+fn report_calls(
     alloc: Global,
     machine: &mut Machine,
     text: &mut Bytes,
     calls: &[CallCommand],
 ) -> Result<(), Memory>
     requires { pending_of machine.old ≡ [] }
-    ensures told { OnOk result (text.new ≡ text.old ++ calls_told (told_call (code_in machine.old)) (mach_of machine.old) calls.now) }
+    ensures reported { OnOk result (text.new
+        ≡ text.old ++ calls_report (call_report (code_in machine.old))
+        (mach_of machine.old) calls.now) }
 {
     for call in calls {
-        let told = tell_call(alloc, machine, call)?;
-        text.append(told.text.as_slice())?;
-        if !told.goes_on {
+        let reported = report_call(alloc, machine, call)?;
+        text.append(reported.text.as_slice())?;
+        if !reported.goes_on {
             return Ok(());
         }
     }
     Ok(())
 }
 
-// The boot function is run and told.
-#[tactic(auto, unfolding(crate::specs::Transcript::spent_text))]
-fn tell_boot(alloc: Global, machine: &mut Machine) -> Result<Telling, Memory>
+// The boot function is run and reported.
+#[tactic(auto, unfolding(xs_meaning::specs::Transcript::spent_text))]
+fn report_boot(alloc: Global, machine: &mut Machine) -> Result<Reported, Memory>
     requires { pending_of machine.old ≡ [] }
-    ensures told { IfOk result (λ t. IsTold (boot_told (end_of (booted (code_in machine.old) TURNS (mach_of machine.old)).stopped) (booted (code_in machine.old) TURNS (mach_of machine.old))) t (mach_of machine.new)) }
+    ensures reported { IfOk result
+        (λ t. IsReported
+        (boot_report (end_of
+        (booted (code_in machine.old) most_turns (mach_of machine.old)).stopped)
+        (booted (code_in machine.old) most_turns (mach_of machine.old))) t (mach_of machine.new)) }
     ensures idle { OnOk result (pending_of machine.new ≡ []) }
     ensures code { code_in machine.new ≡ code_in machine.old }
 {
@@ -307,34 +331,36 @@ fn tell_boot(alloc: Global, machine: &mut Machine) -> Result<Telling, Memory>
     match machine.boot(TURNS) {
         Outcome::Returned(_) => {
             let front = Bytes::from_slice(alloc, b"boot returned\n")?;
-            tell_behind(alloc, machine, front)
+            report_after(alloc, machine, front)
         }
         Outcome::Croaked(text) => {
             let mut line = croaked_text(alloc, &text)?;
-            let settled = tell_settled(alloc, machine)?;
+            let settled = report_settled(alloc, machine)?;
             line.append(settled.text.as_slice())?;
-            tell_last(boot, line.as_slice())
+            report_last(boot, line.as_slice())
         }
-        Outcome::Trapped(trap) => tell_last(boot, trapped_text(alloc, trap)?.as_slice()),
-        Outcome::Spent => tell_last(boot, b" spent\n"),
+        Outcome::Trapped(trap) => report_last(boot, trapped_text(alloc, trap)?.as_slice()),
+        Outcome::Spent => report_last(boot, b" spent\n"),
         Outcome::Memory => Err(Memory),
     }
 }
 
-/// The transcript of a machine that runs nothing yet: the boot function runs first, and then each call.
-#[tactic(auto, unfolding(crate::specs::Running::machine_transcript))]
+/// The transcript of a machine that runs nothing yet: the boot function runs first, and then each
+/// call.
+#[tactic(auto, unfolding(crate::specs::MachineTranscript::machine_transcript))]
 pub fn transcript(
     alloc: Global,
     machine: &mut Machine,
     calls: &[CallCommand],
 ) -> Result<Bytes, Memory>
     requires { pending_of machine.old ≡ [] }
-    ensures { IfOk result (λ text. text ≡ machine_transcript (code_in machine.old) (mach_of machine.old) calls.now) }
+    ensures { IfOk result (λ text. text
+        ≡ machine_transcript (code_in machine.old) (mach_of machine.old) calls.now) }
 {
-    let boot = tell_boot(alloc, machine)?;
+    let boot = report_boot(alloc, machine)?;
     let mut text = boot.text;
     if boot.goes_on {
-        tell_calls(alloc, machine, &mut text, calls)?;
+        report_calls(alloc, machine, &mut text, calls)?;
     }
     Ok(text)
 }

@@ -8,5 +8,7 @@ use Rattle.xs_ccheck.specs.declared.code.Typed.{Typed}
 use Rattle.xs_ccheck.specs.Arena.{function_of}
 use Rattle.xs_ccheck.specs.Functions.{code_of, function_at}
 
-pub callee_is : (t : Typed) (f : ℕ) (o : Option FunctionNode) → o ≡ slice_get t.functions.items f → function_at (code_of t) (Some f) ≡ option_map (function_of t.texts.items t.nodes.items) o
-callee_is t f o e = slice_get-map (function_of t.texts.items t.nodes.items) t.functions.items f ∙ ap (option_map (function_of t.texts.items t.nodes.items)) (sym e)
+pub callee_is : (t : Typed) (f : ℕ) (o : Option FunctionNode) → o ≡ slice_get t.functions.items f
+    → function_at (code_of t) (Some f) ≡ option_map (function_of t.texts.items t.nodes.items) o
+callee_is t f o e = slice_get-map (function_of t.texts.items t.nodes.items) t.functions.items f
+    ∙ ap (option_map (function_of t.texts.items t.nodes.items)) (sym e)

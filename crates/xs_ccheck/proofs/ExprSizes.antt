@@ -1,6 +1,6 @@
 -- How many nodes a tree of C has: what a walk down the tree uses up.
 use Rattle.std.proofs.Common.{ℕ, ◌+◌}
-use Rattle.xs_csyn.specs.Tree.{ExprTree, Var, Num, Str, Call, Set, Two, Cast, ExprTrees, NoExprs, MoreExprs, PlaceTree, VarPlace, StPlace}
+use Rattle.xs_csyn.specs.SyntaxTree.{ExprTree, Var, Num, Str, Call, Set, Two, Cast, ExprTrees, NoExprs, MoreExprs, PlaceTree, VarPlace, StPlace}
 
 abbrev mutual
   pub expr_size : ExprTree → ℕ

@@ -4,10 +4,10 @@ use Rattle.std.specs.Prelude.{slice_get, nat_lt}
 use Rattle.std.proofs.lemmas.Bool.{and_parts, ltb-true}
 use Rattle.xs_ccheck.specs.declared.code.Node.{Node}
 use Rattle.xs_ccheck.specs.declared.code.Node.TheVariants as node
-use Rattle.xs_ccheck.specs.Tree.{Tree, Assign, Binary, Convert, ApiRow, Block, If, Forget, Trees, MoreTrees}
-use Rattle.xs_ccheck.specs.Arena.{row_of, tree_from, trees_from, forest_to, tree_at, trees_at, is_before, InOrder}
+use Rattle.xs_ccheck.specs.TypedTree.{Tree, Assign, Binary, Convert, ApiRow, Block, If, Forget, Trees, MoreTrees}
+use Rattle.xs_ccheck.specs.Arena.{tree_from, trees_from, forest_to, tree_at, trees_at, is_before, InOrder}
 
--- two ways to look parts up that agree on what stands before a place
+-- two ways to look parts up that agree on what stands before an index
 pub record Agree (i : ℕ) (f g : ℕ → Tree) (h k : ℕ → Trees) : Type 0 where
   pub tree : (j : ℕ) → j < i → f j ≡ g j
   pub trees : (j : ℕ) → j < i → h j ≡ k j
@@ -26,7 +26,9 @@ module _ (texts : List (List ℕ)) (i : ℕ) (f g : ℕ → Tree) (h k : ℕ →
   same_tree (node.Assign x t e) b = ap (Assign x t) (part e b)
   same_tree (node.Binary op x y) b = let d = and_parts _ _ b in ap (λ t. Binary op t (f y)) (part x d.0) ∙ ap (Binary op (g x)) (part y d.1)
   same_tree (node.Convert kind e) b = ap (Convert kind) (part e b)
-  same_tree (node.ApiRow r xs) b = ap (ApiRow (row_of texts r)) (parts xs b)
+  same_tree (node.ApiRow r xs) b = ap (ApiRow r) (parts xs b)
+  same_tree (node.CroakUsage t) b = refl
+  same_tree (node.Register t f) b = refl
   same_tree (node.Block ts) b = ap Block (parts ts b)
   same_tree (node.If e x y) b =
       let d = and_parts _ _ b in
@@ -45,6 +47,8 @@ module _ (texts : List (List ℕ)) (i : ℕ) (f g : ℕ → Tree) (h k : ℕ →
   same_trees (node.Binary op x y) b = refl
   same_trees (node.Convert kind e) b = refl
   same_trees (node.ApiRow r xs) b = refl
+  same_trees (node.CroakUsage t) b = refl
+  same_trees (node.Register t f) b = refl
   same_trees (node.Block ts) b = refl
   same_trees (node.If e x y) b = refl
   same_trees (node.Forget e) b = refl
@@ -52,7 +56,7 @@ module _ (texts : List (List ℕ)) (i : ℕ) (f g : ℕ → Tree) (h k : ℕ →
   same_trees node.NoTrees b = refl
   same_trees (node.MoreTrees t ts) b = let d = and_parts _ _ b in ap (λ x. MoreTrees x (h ts)) (part t d.0) ∙ ap (MoreTrees (g t)) (parts ts d.1)
 
-  -- at what stands at the place
+  -- at what stands at the index
   pub opens_tree : (o : Option Node) → ((n : Node) → o ≡ Some n → is_before i n ≡ true) → tree_from texts o f h ≡ tree_from texts o g k
   opens_tree None b = refl
   opens_tree (Some n) b = same_tree n (b n refl)
@@ -68,21 +72,27 @@ enough texts nodes ord zero m i h1 h2 = absurd (omega (arith, h1))
 enough texts nodes ord (suc k) zero i h1 h2 = absurd (omega (arith, h2))
 enough texts nodes ord (suc k) (suc m) i h1 h2 =
     let down = λ (j : ℕ) (lt : j < i). enough texts nodes ord k m j (omega (arith, lt, h1)) (omega (arith, lt, h2)) in
-    let same : Agree i (λ j. (forest_to k texts nodes j).0) (λ j. (forest_to m texts nodes j).0) (λ j. (forest_to k texts nodes j).1) (λ j. (forest_to m texts nodes j).1) =
+    let same : Agree i (λ j. (forest_to k texts nodes j).0) (λ j. (forest_to m texts nodes j).0) (λ j. (forest_to k texts nodes j).1)
+    (λ j. (forest_to m texts nodes j).1) =
     record { tree = λ j lt. ap (λ (x : Tree × Trees). x.0) (down j lt); trees = λ j lt. ap (λ (x : Tree × Trees). x.1) (down j lt) } in
-    ap (λ t. (t, trees_from (slice_get nodes i) (λ j. (forest_to k texts nodes j).0) (λ j. (forest_to k texts nodes j).1))) (opens_tree texts i _ _ _ _ same (slice_get nodes i) (ord.each i))
-    ∙ ap (λ ts. (tree_from texts (slice_get nodes i) (λ j. (forest_to m texts nodes j).0) (λ j. (forest_to m texts nodes j).1), ts)) (opens_trees texts i _ _ _ _ same (slice_get nodes i) (ord.each i))
+    ap (λ t. (t, trees_from (slice_get nodes i) (λ j. (forest_to k texts nodes j).0) (λ j. (forest_to k texts nodes j).1)))
+    (opens_tree texts i _ _ _ _ same (slice_get nodes i) (ord.each i))
+    ∙ ap (λ ts. (tree_from texts (slice_get nodes i) (λ j. (forest_to m texts nodes j).0) (λ j. (forest_to m texts nodes j).1), ts))
+    (opens_trees texts i _ _ _ _ same (slice_get nodes i) (ord.each i))
 
-agree : (texts : List (List ℕ)) (nodes : List Node) → InOrder nodes → (i : ℕ) → Agree i (λ j. (forest_to i texts nodes j).0) (tree_at texts nodes) (λ j. (forest_to i texts nodes j).1) (trees_at texts nodes)
+agree : (texts : List (List ℕ)) (nodes : List Node) → InOrder nodes → (i : ℕ)
+    → Agree i (λ j. (forest_to i texts nodes j).0) (tree_at texts nodes) (λ j. (forest_to i texts nodes j).1) (trees_at texts nodes)
 unfolding forest_to tree_at trees_at
 agree texts nodes ord i =
     let down = λ (j : ℕ) (lt : j < i). enough texts nodes ord i (suc j) j lt (omega arith) in
     record { tree = λ j lt. ap (λ (x : Tree × Trees). x.0) (down j lt); trees = λ j lt. ap (λ (x : Tree × Trees). x.1) (down j lt) }
 
-pub tree_opens : (texts : List (List ℕ)) (nodes : List Node) (i : ℕ) → InOrder nodes → tree_at texts nodes i ≡ tree_from texts (slice_get nodes i) (tree_at texts nodes) (trees_at texts nodes)
+pub tree_opens : (texts : List (List ℕ)) (nodes : List Node) (i : ℕ) → InOrder nodes
+    → tree_at texts nodes i ≡ tree_from texts (slice_get nodes i) (tree_at texts nodes) (trees_at texts nodes)
 unfolding forest_to tree_at trees_at
 tree_opens texts nodes i ord = opens_tree texts i _ _ _ _ (agree texts nodes ord i) (slice_get nodes i) (ord.each i)
 
-pub trees_open : (texts : List (List ℕ)) (nodes : List Node) (i : ℕ) → InOrder nodes → trees_at texts nodes i ≡ trees_from (slice_get nodes i) (tree_at texts nodes) (trees_at texts nodes)
+pub trees_open : (texts : List (List ℕ)) (nodes : List Node) (i : ℕ) → InOrder nodes
+    → trees_at texts nodes i ≡ trees_from (slice_get nodes i) (tree_at texts nodes) (trees_at texts nodes)
 unfolding forest_to tree_at trees_at
 trees_open texts nodes i ord = opens_trees texts i _ _ _ _ (agree texts nodes ord i) (slice_get nodes i) (ord.each i)

@@ -4,6 +4,6 @@ pub mod Unlined
 pub mod Growing
 pub mod Kept
 pub mod ExprSizes
-pub mod Calls
+pub mod CallsAgree
 pub mod StmtSizes
-pub mod Stmts
+pub mod StatementsKept

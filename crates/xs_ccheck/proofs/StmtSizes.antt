@@ -1,6 +1,6 @@
 -- How many nodes a statement of C has: what a walk down the tree uses up.
 use Rattle.std.proofs.Common.{ℕ, ◌+◌}
-use Rattle.xs_csyn.specs.Tree.{StmtTree, Block, Declare, Effect, If, Perl, StmtTrees, NoStmts, MoreStmts}
+use Rattle.xs_csyn.specs.SyntaxTree.{StmtTree, Block, Declare, Effect, If, Perl, StmtTrees, NoStmts, MoreStmts}
 
 abbrev mutual
   pub stmt_size : StmtTree → ℕ

@@ -8,15 +8,16 @@ use Rattle.xs_base.specs.declared.fault.Fault.{Fault}
 use Rattle.xs_csyn.specs.declared.tree.BinaryOp.{BinaryOp}
 use Rattle.xs_csyn.specs.declared.tree.PerlForm.{PerlForm}
 use Rattle.xs_csyn.specs.declared.tree.PerlForm.TheVariants as form
-use Rattle.xs_csyn.specs.Tree as syntax
-use Rattle.xs_csyn.specs.Tree.{ExprTree, ExprTrees, NoExprs, MoreExprs, PlaceTree, VarPlace, StPlace, StmtTree, StmtTrees, NoStmts, MoreStmts, FunctionTree, ItemTree, XsFunction, FileTree, unlined, unlined_expr, unlined_exprs, unlined_place, unlined_stmt, unlined_stmts, unlined_function, unlined_item}
+use Rattle.xs_csyn.specs.SyntaxTree as syntax
+use Rattle.xs_csyn.specs.SyntaxTree.{ExprTree, ExprTrees, NoExprs, MoreExprs, PlaceTree, VarPlace, StPlace, StmtTree, StmtTrees, NoStmts, MoreStmts, FunctionTree, ItemTree, XsFunction, FileTree, unlined, unlined_expr, unlined_exprs, unlined_place, unlined_stmt, unlined_stmts, unlined_function, unlined_item}
 use Rattle.xs_ccheck.specs.declared.code.ValueType.{ValueType}
 use Rattle.xs_ccheck.specs.declared.code.ValueType.TheVariants as type_of
 use Rattle.xs_ccheck.specs.declared.resolve_names.Found.{Found}
 use Rattle.xs_ccheck.specs.declared.resolve_names.Local.{Local}
-use Rattle.xs_ccheck.specs.declared.resolve_names.OperandSort.{OperandSort}
-use Rattle.xs_ccheck.specs.Tree.{Row, Tree, Function, Code}
-use Rattle.xs_ccheck.specs.Typing.{Typed_tree, Operands, Target, To_variable, To_item, Scope, expr, exprs, place_in, stmt, stmts, perl, function, functions, item, item_name, item_place, typed_of, use_of, target, put, operated_type, operated_as, cast_from, type_named, row_named, others, wanted, expr_count, called, usage, usage_of, usage_word, is_cv, text_in, is_number, is_scalar, goes_into, is_condition, a_condition, declared, is_taken, registered_as, place_of, variable_of, at_begin, is_earlier}
+use Rattle.xs_perlapi.specs.declared.row.ApiType.{ApiType}
+use Rattle.xs_perlapi.specs.Table.{RowCall, row_named}
+use Rattle.xs_ccheck.specs.TypedTree.{Tree, Function, Code}
+use Rattle.xs_ccheck.specs.Typing.{Typed_tree, Operands, Target, To_variable, To_item, Scope, expr, exprs, place_in, stmt, stmts, perl, function, functions, item, item_name, item_place, typed_of, use_of, target, put, operated_type, operated_as, cast_from, type_named, others, expected_operands, expr_count, called, usage, usage_of, usage_word, is_cv, text_in, is_number, is_scalar, goes_into, is_condition, a_condition, declared, is_in_use, registered_as, index_of, variable_of, at_begin, is_earlier}
 
 -- Two results give the same.
 record Alike {A : Type 0} (r s : Result A Fault) : Type 0 where
@@ -28,11 +29,11 @@ alike r = record { is = refl }
 faults : {A : Type 0} (f g : Fault) → Alike {A = A} (Err f) (Err g)
 faults f g = record { is = refl }
 
-behind : {A B : Type 0} (r s : Result A Fault) (k l : A → Result B Fault) → Alike r s → ((a : A) → Alike (k a) (l a)) → Alike (r >>= k) (s >>= l)
-behind (Ok a) (Ok b) k l h then_is = record { is = (then_is a).is ∙ ap (λ c. result_ok (l c)) (same_Some a b h.is) }
-behind (Err f) (Err g) k l h then_is = record { is = refl }
-behind (Ok a) (Err g) k l h then_is = let e = h.is in absurd cc
-behind (Err f) (Ok b) k l h then_is = let e = h.is in absurd cc
+after : {A B : Type 0} (r s : Result A Fault) (k l : A → Result B Fault) → Alike r s → ((a : A) → Alike (k a) (l a)) → Alike (r >>= k) (s >>= l)
+after (Ok a) (Ok b) k l h then_is = record { is = (then_is a).is ∙ ap (λ c. result_ok (l c)) (same_Some a b h.is) }
+after (Err f) (Err g) k l h then_is = record { is = refl }
+after (Ok a) (Err g) k l h then_is = let e = h.is in absurd cc
+after (Err f) (Ok b) k l h then_is = let e = h.is in absurd cc
 
 chosen : {A : Type 0} (b : Bool) (r s t u : Result A Fault) → Alike r s → Alike t u → Alike (cond b r t) (cond b s u)
 chosen true r s t u h k = h
@@ -65,7 +66,7 @@ cast_alike line (Some (type_of.Number kind)) e = chosen (is_number e.of_type) _ 
 cast_alike line (Some type_of.Scalar) e = chosen (is_scalar e.of_type) _ _ _ _ (alike _) (faults _ _)
 cast_alike line (Some type_of.Void) e = faults _ _
 
-called_alike : (line : ℕ) (name : List ℕ) (count : ℕ) (r : Option Row) (xs : Operands) → Alike (called line name count r xs) (called 0 name count r xs)
+called_alike : (line : ℕ) (name : List ℕ) (count : ℕ) (r : Option RowCall) (xs : Operands) → Alike (called line name count r xs) (called 0 name count r xs)
 called_alike line name count None xs = faults _ _
 called_alike line name count (Some r) xs = chosen _ _ _ _ _ (chosen xs.fit _ _ _ _ (alike _) (faults _ _)) (faults _ _)
 
@@ -99,14 +100,21 @@ usage_of_alike line false text = faults _ _
 usage_alike : (line : ℕ) (args : ExprTrees) → Alike (usage line args) (usage 0 (unlined_exprs args))
 usage_alike line NoExprs = faults _ _
 usage_alike line (MoreExprs a NoExprs) = faults _ _
-usage_alike line (MoreExprs a (MoreExprs b NoExprs)) = record { is = (usage_of_alike line (is_cv a) (text_in b)).is ∙ ap (λ c. result_ok (usage_of 0 c (text_in b))) (cv_alike a) ∙ ap (λ t. result_ok (usage_of 0 (is_cv (unlined_expr a)) t)) (text_alike b) }
+usage_alike line (MoreExprs a (MoreExprs b NoExprs)) =
+    record {
+      is = (usage_of_alike line (is_cv a) (text_in b)).is ∙ ap (λ c. result_ok (usage_of 0 c (text_in b))) (cv_alike a)
+          ∙ ap (λ t. result_ok (usage_of 0 (is_cv (unlined_expr a)) t)) (text_alike b);
+    }
 usage_alike line (MoreExprs a (MoreExprs b (MoreExprs c more))) = faults _ _
 
 -- a call of a name, where its operands are alike
 call_alike : (line : ℕ) (name : List ℕ) (args : ExprTrees) (r s : Result Operands Fault) → Alike r s
     → Alike (r >>= called line name (expr_count args) (row_named name)) (s >>= called 0 name (expr_count (unlined_exprs args)) (row_named name))
 call_alike line name args r s h =
-    behind r s _ _ h (λ xs. record { is = (called_alike line name (expr_count args) (row_named name) xs).is ∙ ap (λ n. result_ok (called 0 name n (row_named name) xs)) (count_alike args) })
+    after r s _ _ h (λ xs. record {
+      is = (called_alike line name (expr_count args) (row_named name) xs).is
+          ∙ ap (λ n. result_ok (called 0 name n (row_named name) xs)) (count_alike args);
+    })
 
 module _ (variables : List Local) where
   mutual
@@ -116,29 +124,34 @@ module _ (variables : List Local) where
     expr_alike (syntax.Var line name) = use_alike line name (variable_of variables name)
     expr_alike (syntax.Num line value) = alike _
     expr_alike (syntax.Str line text) = faults _ _
-    expr_alike (syntax.Call line name args) = chosen (bytes_eq name usage_word) _ _ _ _ (usage_alike line args) (call_alike line name args _ _ (exprs_alike (wanted (row_named name)) args))
-    expr_alike (syntax.Set line place value) = behind _ _ _ _ (place_in_alike place) (λ p. behind _ _ _ _ (expr_alike value) (λ x. put_alike line p x))
-    expr_alike (syntax.Two line o a b) = behind _ _ _ _ (expr_alike a) (λ x. behind _ _ _ _ (expr_alike b) (λ y. operated_alike line o x.tree y.tree (operated_type o x.of_type y.of_type)))
-    expr_alike (syntax.Cast line to a) = behind _ _ _ _ (expr_alike a) (λ x. cast_alike line (type_named to) x)
+    expr_alike (syntax.Call line name args) =
+        chosen (bytes_eq name usage_word) _ _ _ _ (usage_alike line args)
+        (call_alike line name args _ _ (exprs_alike (expected_operands (row_named name)) args))
+    expr_alike (syntax.Set line place value) = after _ _ _ _ (place_in_alike place) (λ p. after _ _ _ _ (expr_alike value) (λ x. put_alike line p x))
+    expr_alike (syntax.Two line o a b) =
+        after _ _ _ _ (expr_alike a) (λ x. after _ _ _ _ (expr_alike b) (λ y. operated_alike line o x.tree y.tree (operated_type o x.of_type y.of_type)))
+    expr_alike (syntax.Cast line to a) = after _ _ _ _ (expr_alike a) (λ x. cast_alike line (type_named to) x)
 
-    exprs_alike : (sorts : List OperandSort) (es : ExprTrees) → Alike (exprs variables sorts es) (exprs variables sorts (unlined_exprs es))
-    exprs_alike sorts NoExprs = alike _
-    exprs_alike sorts (MoreExprs a all) = behind _ _ _ _ (expr_alike a) (λ x. behind _ _ _ _ (exprs_alike (others sorts) all) (λ xs. alike _))
+    exprs_alike : (operand_types : List ApiType) (es : ExprTrees)
+        → Alike (exprs variables operand_types es) (exprs variables operand_types (unlined_exprs es))
+    exprs_alike operand_types NoExprs = alike _
+    exprs_alike operand_types (MoreExprs a all) = after _ _ _ _ (expr_alike a) (λ x. after _ _ _ _ (exprs_alike (others operand_types) all) (λ xs. alike _))
 
     place_in_alike : (p : PlaceTree) → Alike (place_in variables p) (place_in variables (unlined_place p))
     place_in_alike (VarPlace line name) = target_alike line name (variable_of variables name)
-    place_in_alike (StPlace line at) = behind _ _ _ _ (expr_alike at) (λ i. place_alike line i)
+    place_in_alike (StPlace line at) = after _ _ _ _ (expr_alike at) (λ i. place_alike line i)
 
 -- ---- statements
 
 declared_alike : (line : ℕ) (scope : Scope) (name : List ℕ) (t : Option ValueType) → Alike (declared line scope name t) (declared 0 scope name t)
 declared_alike line scope name None = faults _ _
-declared_alike line scope name (Some t) = chosen (is_taken scope.variables name) _ _ _ _ (faults _ _) (alike _)
+declared_alike line scope name (Some t) = chosen (is_in_use scope.variables name) _ _ _ _ (faults _ _) (alike _)
 
 condition_alike : (line : ℕ) (e : Typed_tree) → Alike (a_condition line e) (a_condition 0 e)
 condition_alike line e = chosen (is_condition e.of_type) _ _ _ _ (alike _) (faults _ _)
 
-registered_alike : (line : ℕ) (scope : Scope) (full function : List ℕ) (f : Option ℕ) → Alike (registered_as line scope full function f) (registered_as 0 scope full function f)
+registered_alike : (line : ℕ) (scope : Scope) (full function : List ℕ) (f : Option ℕ)
+    → Alike (registered_as line scope full function f) (registered_as 0 scope full function f)
 registered_alike line scope full function None = faults _ _
 registered_alike line scope full function (Some f) = chosen scope.in_boot _ _ _ _ (alike _) (faults _ _)
 
@@ -147,34 +160,38 @@ module _ (names : List (List ℕ)) where
   unfolding perl
   perl_alike line scope form.DxsArgs = chosen scope.entered _ _ _ _ (faults _ _) (alike _)
   perl_alike line scope form.XsReturnYes = alike _
-  perl_alike line scope (form.NewXs full function) = registered_alike line scope full function (place_of names function)
+  perl_alike line scope (form.NewXs full function) = registered_alike line scope full function (index_of names function)
 
   mutual
     unfolding stmt
 
     stmt_alike : (scope : Scope) (s : StmtTree) → Alike (stmt names scope s) (stmt names scope (unlined_stmt s))
-    stmt_alike scope (syntax.Block line body) = behind _ _ _ _ (stmts_alike scope body) (λ inner. alike _)
+    stmt_alike scope (syntax.Block line body) = after _ _ _ _ (stmts_alike scope body) (λ inner. alike _)
     stmt_alike scope (syntax.Declare line t name) = declared_alike line scope name (type_named t)
-    stmt_alike scope (syntax.Effect line e) = behind _ _ _ _ (expr_alike scope.variables e) (λ x. alike _)
-    stmt_alike scope (syntax.If line test then_do) = behind _ _ _ _ (expr_alike scope.variables test) (λ x. behind _ _ _ _ (condition_alike line x) (λ holds. behind _ _ _ _ (stmt_alike scope then_do) (λ branch. alike _)))
+    stmt_alike scope (syntax.Effect line e) = after _ _ _ _ (expr_alike scope.variables e) (λ x. alike _)
+    stmt_alike scope (syntax.If line test then_do) =
+        after _ _ _ _ (expr_alike scope.variables test)
+        (λ x. after _ _ _ _ (condition_alike line x) (λ holds. after _ _ _ _ (stmt_alike scope then_do) (λ branch. alike _)))
     stmt_alike scope (syntax.Perl line f) = perl_alike line scope f
 
     stmts_alike : (scope : Scope) (all : StmtTrees) → Alike (stmts names scope all) (stmts names scope (unlined_stmts all))
     stmts_alike scope NoStmts = alike _
-    stmts_alike scope (MoreStmts s all) = behind _ _ _ _ (stmt_alike scope s) (λ first. behind _ _ _ _ (stmts_alike first.scope all) (λ more. alike _))
+    stmts_alike scope (MoreStmts s all) = after _ _ _ _ (stmt_alike scope s) (λ first. after _ _ _ _ (stmts_alike first.scope all) (λ more. alike _))
 
   -- ---- files
 
   function_alike : (at : ℕ) (f : FunctionTree) → Alike (function names at f) (function names at (unlined_function f))
   unfolding function
-  function_alike at f = behind _ _ _ _ (stmts_alike (at_begin f.name) f.body) (λ body. chosen (is_earlier (place_of names f.name) at) _ _ _ _ (faults _ _) (alike _))
+  function_alike at f =
+      after _ _ _ _ (stmts_alike (at_begin f.name) f.body) (λ body. chosen (is_earlier (index_of names f.name) at) _ _ _ _ (faults _ _) (alike _))
 
   item_alike : (at : ℕ) (i : ItemTree) → Alike (item names at i) (item names at (unlined_item i))
   item_alike at (XsFunction f) = function_alike at f
 
-  functions_alike : (at : ℕ) (before : List Function) (items : List ItemTree) → Alike (functions names at before items) (functions names at before (map unlined_item items))
+  functions_alike : (at : ℕ) (before : List Function) (items : List ItemTree)
+      → Alike (functions names at before items) (functions names at before (map unlined_item items))
   functions_alike at before [] = alike _
-  functions_alike at before (i ∷ items) = behind _ _ _ _ (item_alike at i) (λ here. functions_alike (at + 1) (before ++ here ∷ []) items)
+  functions_alike at before (i ∷ items) = after _ _ _ _ (item_alike at i) (λ here. functions_alike (at + 1) (before ++ here ∷ []) items)
 
 name_alike : (i : ItemTree) → item_name i ≡ item_name (unlined_item i)
 name_alike (XsFunction f) = refl
@@ -187,7 +204,7 @@ file_alike : (t : FileTree) → Alike (typed_of t) (typed_of (unlined t))
 unfolding typed_of
 file_alike t =
     record {
-      is = (behind _ _ _ _ (functions_alike (map item_name t.items) 0 [] t.items) (λ all. alike _)).is
+      is = (after _ _ _ _ (functions_alike (map item_name t.items) 0 [] t.items) (λ all. alike _)).is
           ∙ ap (λ names. result_ok (functions names 0 [] (map unlined_item t.items) >>= λ all. Ok (record { functions = all }))) (names_alike t.items);
     }
 

@@ -2,23 +2,8 @@
 use Rattle.std.specs.Prelude.{◌≡◌, ℕ, zero, suc, Bool, true, ◌&&◌, nat_lt, List, [], Option, Some, slice_get, slice_index_or}
 use Rattle.xs_ccheck.specs.declared.code.Node.{Node}
 use Rattle.xs_ccheck.specs.declared.code.Node.TheVariants as node
-use Rattle.xs_ccheck.specs.declared.code.RowNode.{RowNode}
-use Rattle.xs_ccheck.specs.declared.code.RowNode.TheVariants as row
 use Rattle.xs_ccheck.specs.declared.code.FunctionNode.{FunctionNode}
-use Rattle.xs_ccheck.specs.Tree.{Row, Entry, StRead, SvIv, SvNewMortal, SvSetIv, StSet, XsReturn, XsReturnYes, CroakUsage, NewXs, Tree, Literal, Variable, ItemCount, Assign, Binary, Convert, ApiRow, Block, If, Forget, Declare, Trees, NoTrees, MoreTrees, Function}
-
--- a row with its texts
-abbrev pub row_of : List (List ℕ) → RowNode → Row
-row_of texts row.Entry = Entry
-row_of texts row.StRead = StRead
-row_of texts row.SvIv = SvIv
-row_of texts row.SvNewMortal = SvNewMortal
-row_of texts row.SvSetIv = SvSetIv
-row_of texts row.StSet = StSet
-row_of texts row.XsReturn = XsReturn
-row_of texts row.XsReturnYes = XsReturnYes
-row_of texts (row.CroakUsage t) = CroakUsage (slice_index_or texts t [])
-row_of texts (row.NewXs t f) = NewXs (slice_index_or texts t []) f
+use Rattle.xs_ccheck.specs.TypedTree.{Tree, Literal, Variable, ItemCount, Assign, Binary, Convert, ApiRow, CroakUsage, Register, Block, If, Forget, Declare, Trees, NoTrees, MoreTrees, Function}
 
 -- a node's tree, with the trees of its parts
 abbrev pub tree_from : List (List ℕ) → Option Node → (ℕ → Tree) → (ℕ → Trees) → Tree
@@ -27,7 +12,9 @@ tree_from texts (Some (node.Variable x)) tree trees = Variable x
 tree_from texts (Some (node.Assign x t e)) tree trees = Assign x t (tree e)
 tree_from texts (Some (node.Binary op a b)) tree trees = Binary op (tree a) (tree b)
 tree_from texts (Some (node.Convert k e)) tree trees = Convert k (tree e)
-tree_from texts (Some (node.ApiRow r xs)) tree trees = ApiRow (row_of texts r) (trees xs)
+tree_from texts (Some (node.ApiRow r xs)) tree trees = ApiRow r (trees xs)
+tree_from texts (Some (node.CroakUsage t)) tree trees = CroakUsage (slice_index_or texts t [])
+tree_from texts (Some (node.Register t f)) tree trees = Register (slice_index_or texts t []) f
 tree_from texts (Some (node.Block ts)) tree trees = Block (trees ts)
 tree_from texts (Some (node.If e a b)) tree trees = If (tree e) (tree a) (tree b)
 tree_from texts (Some (node.Forget e)) tree trees = Forget (tree e)
@@ -42,9 +29,14 @@ trees_from _ tree trees = NoTrees
 -- the tree and the list of trees of a node, where its parts are looked up so many levels down
 unfoldable pub forest_to : ℕ → List (List ℕ) → List Node → ℕ → Tree × Trees
 forest_to zero texts nodes i = (ItemCount, NoTrees)
-forest_to (suc n) texts nodes i = (tree_from texts (slice_get nodes i) (λ j. (forest_to n texts nodes j).0) (λ j. (forest_to n texts nodes j).1), trees_from (slice_get nodes i) (λ j. (forest_to n texts nodes j).0) (λ j. (forest_to n texts nodes j).1))
+forest_to (suc n) texts nodes i = (
+  tree_from texts (slice_get nodes i) (λ j. (forest_to n texts nodes j).0)
+      (λ j. (forest_to n texts nodes j).1),
+  trees_from (slice_get nodes i) (λ j. (forest_to n texts nodes j).0)
+      (λ j. (forest_to n texts nodes j).1),
+)
 
--- the tree, and the list of trees, of the node at a place
+-- the tree, and the list of trees, of the node at an index
 unfoldable pub tree_at : List (List ℕ) → List Node → ℕ → Tree
 tree_at texts nodes i = (forest_to (suc i) texts nodes i).0
 
@@ -68,4 +60,10 @@ pub record InOrder (nodes : List Node) : Type 0 where
   pub each : (i : ℕ) (n : Node) → slice_get nodes i ≡ Some n → is_before i n ≡ true
 
 abbrev pub function_of : List (List ℕ) → List Node → FunctionNode → Function
-function_of texts nodes f = record { name = f.name; is_boot = f.is_boot; slots = f.slots; body = tree_at texts nodes f.body }
+function_of texts nodes f =
+    record {
+      name = f.name;
+      is_boot = f.is_boot;
+      slots = f.slots;
+      body = tree_at texts nodes f.body;
+    }

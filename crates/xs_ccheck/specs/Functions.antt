@@ -4,7 +4,7 @@ use Rattle.std.specs.List.{position_from}
 use Rattle.xs_ccheck.specs.declared.code.Callable.{Callable}
 use Rattle.xs_ccheck.specs.declared.code.Typed.{Typed}
 use Rattle.xs_ccheck.specs.Arena.{function_of, tree_at}
-use Rattle.xs_ccheck.specs.Tree.{Code, Function}
+use Rattle.xs_ccheck.specs.TypedTree.{Code, Function}
 
 -- the code that a file of resolved nodes stands for
 abbrev pub code_of : Typed → Code
@@ -27,7 +27,9 @@ abbrev pub name_of : Option Function → List ℕ
 name_of None = []
 name_of (Some f) = f.name
 
--- the function of a number, as the machine enters it: how many slots it has, and the place of its body
+-- the function of a number, as the machine enters it: how many slots it has, and the index of
+-- its body
 abbrev pub Callee : Typed → Option ℕ → Option Callable → Type 0
 Callee t f None = function_at (code_of t) f ≡ None
-Callee t f (Some e) = (g : Function) × (function_at (code_of t) f ≡ Some g) × ((g.slots ≡ e.slots) × (g.body ≡ tree_at t.texts.items t.nodes.items e.body))
+Callee t f (Some e) = (g : Function) × (function_at (code_of t) f ≡ Some g)
+    × ((g.slots ≡ e.slots) × (g.body ≡ tree_at t.texts.items t.nodes.items e.body))

@@ -1,9 +1,9 @@
-pub mod Tree
+pub mod TypedTree
 pub mod Arena
 pub mod Functions
-pub mod Placed
+pub mod NamedParts
 pub mod Growth
 pub mod Typing
 pub mod Resolving
 pub mod ResolvingStmts
-pub mod Law
+pub mod Laws

@@ -1,4 +1,5 @@
--- What the resolving of expressions and statements gives: nodes whose trees are those of the definition.
+-- What the resolving of expressions and statements gives: nodes whose trees are those of the
+-- definition.
 use Rattle.std.specs.Prelude.{◌<◌, length, Result}
 use Rattle.xs_base.specs.declared.fault.Fault.{Fault}
 use Rattle.xs_base.specs.declared.fault.Refuse.{Refuse}
@@ -24,8 +25,10 @@ GivesExpr result old new read = Resolves typed_in HasTyped result old new read
 abbrev pub operands_in : Nodes → OperandNodes → Operands
 operands_in b x = record { trees = trees_in b x.nodes; fit = x.fit }
 
-abbrev pub GivesOperands : Result OperandNodes Refuse → Nodes → Nodes → Result Operands Fault → Type 0
-GivesOperands result old new read = Resolves operands_in (λ b x. HasNode b x.nodes) result old new read
+abbrev pub GivesOperands : Result OperandNodes Refuse → Nodes → Nodes → Result Operands Fault
+    → Type 0
+GivesOperands result old new read =
+    Resolves operands_in (λ b x. HasNode b x.nodes) result old new read
 
 abbrev pub target_in : Nodes → TargetNode → Target
 target_in b (to.Variable slot t) = To_variable slot t

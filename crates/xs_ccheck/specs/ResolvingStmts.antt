@@ -4,17 +4,18 @@ use Rattle.xs_base.specs.declared.fault.Fault.{Fault}
 use Rattle.xs_base.specs.declared.fault.Refuse.{Refuse}
 use Rattle.xs_base.specs.Reading.{Fails, GivesBy}
 use Rattle.xs_csyn.specs.declared.tree.FileItem.{FileItem}
-use Rattle.xs_csyn.specs.View.{item_tree}
+use Rattle.xs_csyn.specs.TreeViews.{item_tree}
 use Rattle.xs_ccheck.specs.declared.resolve_nodes.Nodes.{Nodes}
 use Rattle.xs_ccheck.specs.Growth.{HasNode, Resolves, functions_in, tree_in, trees_in}
-use Rattle.xs_ccheck.specs.Tree.{Function, Tree, Trees}
+use Rattle.xs_ccheck.specs.TypedTree.{Function, Tree, Trees}
 use Rattle.xs_ccheck.specs.Typing.{Done, Scope, item_name}
 
--- what stands at a node, where `at` sees it, with the scope behind it
+-- what stands at a node, where `at` sees it, with the scope after it
 abbrev pub done_in : {T : Type 0} → (Nodes → ℕ → T) → Scope → Nodes → ℕ → Done T
 done_in at scope b x = record { tree = at b x; scope = scope }
 
-abbrev pub GivesDone : {T : Type 0} → (Nodes → ℕ → T) → Result ℕ Refuse → Nodes → Nodes → Scope → Result (Done T) Fault → Type 0
+abbrev pub GivesDone : {T : Type 0} → (Nodes → ℕ → T) → Result ℕ Refuse → Nodes → Nodes → Scope
+    → Result (Done T) Fault → Type 0
 GivesDone at result old new scope read = Resolves (done_in at scope) HasNode result old new read
 
 -- a statement
@@ -25,7 +26,7 @@ GivesStmt result old new scope read = GivesDone tree_in result old new scope rea
 abbrev pub GivesStmts : Result ℕ Refuse → Nodes → Nodes → Scope → Result (Done Trees) Fault → Type 0
 GivesStmts result old new scope read = GivesDone trees_in result old new scope read
 
--- a function stands behind the others
+-- a function stands after the others
 pub record IsFunction (old new : Nodes) (read : Result Function Fault) : Type 0 where
   pub here : Function
   pub means : read ≡ Ok here

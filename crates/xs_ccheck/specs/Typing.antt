@@ -1,12 +1,14 @@
--- The types stage: what the tree of a C file means once its names are resolved and its types are checked. The first fault in the order of
--- the text is told, where a node's own fault comes behind those of its parts.
-use Rattle.std.specs.Prelude.{ℕ, suc, ◌+◌, ◌^◌, pos, Bool, true, false, ◌&&◌, ◌||◌, cond, nat_lt, nat_eq, List, [], ◌∷◌, ◌++◌, map, length, take, Option, Some, None, Result, Ok, Err, codes}
+-- The types stage: what the tree of a C file means once its names are resolved and its types are
+-- checked. The first fault in the order of the text is reported, where a node's own fault comes
+-- after those of its parts.
+use Rattle.std.specs.Prelude.{ℕ, suc, ◌+◌, ◌^◌, pos, Bool, true, false, ◌&&◌, ◌||◌, if◌then◌else◌, nat_lt, nat_eq, List, [], ◌∷◌, ◌++◌, map, length, take, Option, Some, None, Result, Ok, Err, codes}
 use Rattle.std.specs.List.{position_from, starts_with}
 use Rattle.std.specs.Map.{lookup}
 use Rattle.std.specs.Option.{is_some}
 use Rattle.std.specs.Str.{bytes_eq}
 use Rattle.xs_base.specs.declared.fault.Fault.{Fault}
-use Rattle.xs_base.specs.declared.place.FileOf.TheVariants as file
+use Rattle.xs_base.specs.declared.fault_codes.TheConstants.{UNKNOWN_NAME, UNKNOWN_FUNCTION, TYPES_DIFFER, DECLARED_TWICE, WRONG_NUMBER_OF_ARGUMENTS, NOT_ASSIGNABLE, WORD_NOT_ALLOWED}
+use Rattle.xs_base.specs.declared.source.FileOf.TheVariants as file
 use Rattle.xs_base.specs.Reading.{◌>>=◌, fault_in}
 use Rattle.xs_values.specs.declared.kind.Kind.{Kind}
 use Rattle.xs_values.specs.declared.kind.Kind.TheVariants.{I32, I64, U64}
@@ -14,21 +16,24 @@ use Rattle.xs_values.specs.declared.operator.Op.{Op}
 use Rattle.xs_values.specs.declared.operator.Op.TheVariants as op
 use Rattle.xs_values.specs.Kinds.{common_kind}
 use Rattle.xs_values.specs.Numbers.{wrapped}
-use Rattle.xs_ctok.specs.Words.{is_interface_word}
+use Rattle.xs_ctok.specs.CWords.{is_interface_word}
 use Rattle.xs_csyn.specs.declared.tree.BinaryOp.{BinaryOp}
 use Rattle.xs_csyn.specs.declared.tree.BinaryOp.TheVariants as c
 use Rattle.xs_csyn.specs.declared.tree.CType.{CType}
 use Rattle.xs_csyn.specs.declared.tree.PerlForm.{PerlForm}
 use Rattle.xs_csyn.specs.declared.tree.PerlForm.TheVariants as form
-use Rattle.xs_csyn.specs.Tree as syntax
-use Rattle.xs_csyn.specs.Tree.{ExprTree, ExprTrees, NoExprs, MoreExprs, PlaceTree, VarPlace, StPlace, StmtTree, StmtTrees, NoStmts, MoreStmts, FunctionTree, ItemTree, XsFunction, FileTree}
+use Rattle.xs_csyn.specs.SyntaxTree as syntax
+use Rattle.xs_csyn.specs.SyntaxTree.{ExprTree, ExprTrees, NoExprs, MoreExprs, PlaceTree, VarPlace, StPlace, StmtTree, StmtTrees, NoStmts, MoreStmts, FunctionTree, ItemTree, XsFunction, FileTree}
+use Rattle.xs_perlapi.specs.declared.row.ApiType.{ApiType}
+use Rattle.xs_perlapi.specs.declared.row.ApiType.TheVariants as api
+use Rattle.xs_perlapi.specs.declared.row.Row.{Row}
+use Rattle.xs_perlapi.specs.declared.row.Row.TheVariants.{Entry, StSet, XsReturnYes}
+use Rattle.xs_perlapi.specs.Table.{RowCall, row_named}
 use Rattle.xs_ccheck.specs.declared.code.ValueType.{ValueType}
 use Rattle.xs_ccheck.specs.declared.code.ValueType.TheVariants as type_of
 use Rattle.xs_ccheck.specs.declared.resolve_names.Found.{Found}
 use Rattle.xs_ccheck.specs.declared.resolve_names.Local.{Local}
-use Rattle.xs_ccheck.specs.declared.resolve_names.OperandSort.{OperandSort}
-use Rattle.xs_ccheck.specs.declared.resolve_names.OperandSort.TheVariants.{ANumber, AScalar}
-use Rattle.xs_ccheck.specs.Tree.{Row, Entry, StRead, SvIv, SvNewMortal, SvSetIv, StSet, XsReturn, XsReturnYes, CroakUsage, NewXs, Tree, Literal, Variable, ItemCount, Assign, Binary, Convert, ApiRow, Block, If, Forget, Declare, Trees, NoTrees, MoreTrees, Function, Code}
+use Rattle.xs_ccheck.specs.TypedTree.{Tree, Literal, Variable, ItemCount, Assign, Binary, Convert, ApiRow, CroakUsage, Register, Block, If, Forget, Declare, Trees, NoTrees, MoreTrees, Function, Code}
 
 -- ---- faults
 
@@ -37,22 +42,27 @@ abbrev pub fault : ℕ → ℕ → List ℕ → Fault
 fault = fault_in file.Text
 
 abbrev pub types_differ : ℕ → Fault
-types_differ line = fault line 803 []
+types_differ line = fault line TYPES_DIFFER []
 
 abbrev pub declared_twice : ℕ → List ℕ → Fault
-declared_twice line name = fault line 804 name
+declared_twice line name = fault line DECLARED_TWICE name
 
 abbrev pub not_allowed : ℕ → List ℕ → Fault
-not_allowed line word = fault line 807 word
+not_allowed line word = fault line WORD_NOT_ALLOWED word
+
+abbrev pub wrong_count : ℕ → List ℕ → Fault
+wrong_count line name = fault line WRONG_NUMBER_OF_ARGUMENTS name
 
 -- ---- names
 
--- the fault of a name that means nothing where it stands: the code is that of a word without meaning anywhere
+-- the fault of a name that means nothing where it stands: the code is that of a word without
+-- meaning anywhere
 abbrev pub unknown : ℕ → ℕ → List ℕ → Fault
-unknown code line name = cond (is_interface_word name) (not_allowed line name) (fault line code name)
+unknown code line name =
+    if is_interface_word name then not_allowed line name else fault line code name
 
--- Where a statement stands: the variables that are known there in the order of their declarations, how many slots are used, whether
--- dXSARGS was read, and whether the function is the boot function.
+-- Where a statement stands: the variables that are known there in the order of their declarations,
+-- how many slots are used, whether dXSARGS was read, and whether the function is the boot function.
 pub record Scope : Type 0 where
   pub variables : List Local
   pub slots : ℕ
@@ -88,13 +98,14 @@ goes_into type_of.Void to = false
 -- the type that is spelt so, where it may be the type of a variable
 unfoldable pub type_named : CType → Option ValueType
 type_named t =
-    cond (bytes_eq t.name (codes "int") && nat_eq t.stars 0) (Some (type_of.Number I32))
-    (cond (bytes_eq t.name (codes "IV") && nat_eq t.stars 0) (Some (type_of.Number I64))
-    (cond (bytes_eq t.name (codes "SV") && nat_eq t.stars 1) (Some type_of.Scalar) None))
+    if bytes_eq t.name (codes "int") && nat_eq t.stars 0 then Some (type_of.Number I32)
+    else if bytes_eq t.name (codes "IV") && nat_eq t.stars 0 then Some (type_of.Number I64)
+    else if bytes_eq t.name (codes "SV") && nat_eq t.stars 1 then Some type_of.Scalar
+    else None
 
 -- the kind of a decimal literal: the first of int, long and unsigned long that holds it
 abbrev pub literal_kind : ℕ → Kind
-literal_kind n = cond (nat_lt n (2 ^ 31)) I32 (cond (nat_lt n (2 ^ 63)) I64 U64)
+literal_kind n = if nat_lt n (2 ^ 31) then I32 else if nat_lt n (2 ^ 63) then I64 else U64
 
 -- ---- expressions
 
@@ -103,7 +114,7 @@ pub record Typed_tree : Type 0 where
   pub tree : Tree
   pub of_type : ValueType
 
--- operands, and whether each is of the sort that is wanted
+-- operands, and whether each has the type that is wanted
 pub record Operands : Type 0 where
   pub trees : Trees
   pub fit : Bool
@@ -116,31 +127,37 @@ literal n = typed (Literal (wrapped (literal_kind n) (pos n))) (type_of.Number (
 
 -- a name that is no variable
 abbrev pub other_name : ℕ → List ℕ → Result Typed_tree Fault
-other_name line name = cond (bytes_eq name (codes "items")) (typed ItemCount (type_of.Number I32)) (Err (unknown 801 line name))
+other_name line name =
+    if bytes_eq name (codes "items") then typed ItemCount (type_of.Number I32)
+    else Err (unknown UNKNOWN_NAME line name)
 
 abbrev pub use_of : ℕ → List ℕ → Option Found → Result Typed_tree Fault
 use_of line name None = other_name line name
 use_of line name (Some v) = typed (Variable v.slot) v.of_type
 
--- what is assigned to: a variable by its slot and type, or a place of the argument list
+-- what is assigned to: a variable by its slot and type, or an item of the argument stack
 pub data Target : Type 0 where
   To_variable : ℕ → ValueType → Target
   To_item : Tree → Target
 
 -- the item count is not assignable
 abbrev pub target : ℕ → List ℕ → Option Found → Result Target Fault
-target line name None = Err (cond (bytes_eq name (codes "items")) (fault line 806 []) (unknown 801 line name))
+target line name None =
+    Err (if bytes_eq name (codes "items") then fault line NOT_ASSIGNABLE []
+    else unknown UNKNOWN_NAME line name)
 target line name (Some v) = Ok (To_variable v.slot v.of_type)
 
 abbrev pub item_place : ℕ → Typed_tree → Result Target Fault
-item_place line e = cond (is_number e.of_type) (Ok (To_item e.tree)) (Err (types_differ line))
+item_place line e = if is_number e.of_type then Ok (To_item e.tree) else Err (types_differ line)
 
 abbrev pub stored : Tree → Tree → Result Typed_tree Fault
 stored at e = typed (ApiRow StSet (MoreTrees e (MoreTrees at NoTrees))) type_of.Scalar
 
 abbrev pub put : ℕ → Target → Typed_tree → Result Typed_tree Fault
-put line (To_variable slot t) e = cond (goes_into e.of_type t) (typed (Assign slot t e.tree) t) (Err (types_differ line))
-put line (To_item at) e = cond (is_scalar e.of_type) (stored at e.tree) (Err (types_differ line))
+put line (To_variable slot t) e =
+    if goes_into e.of_type t then typed (Assign slot t e.tree) t else Err (types_differ line)
+put line (To_item at) e =
+    if is_scalar e.of_type then stored at e.tree else Err (types_differ line)
 
 abbrev pub operator_of : BinaryOp → Op
 operator_of c.Add = op.Add
@@ -160,62 +177,50 @@ operated_as line o a b (Some t) = typed (Binary (operator_of o) a b) t
 
 abbrev pub cast_from : ℕ → Option ValueType → Typed_tree → Result Typed_tree Fault
 cast_from line None e = Err (types_differ line)
-cast_from line (Some (type_of.Number kind)) e = cond (is_number e.of_type) (typed (Convert kind e.tree) (type_of.Number kind)) (Err (types_differ line))
-cast_from line (Some type_of.Scalar) e = cond (is_scalar e.of_type) (Ok e) (Err (types_differ line))
+cast_from line (Some (type_of.Number kind)) e =
+    if is_number e.of_type then typed (Convert kind e.tree) (type_of.Number kind)
+    else Err (types_differ line)
+cast_from line (Some type_of.Scalar) e =
+    if is_scalar e.of_type then Ok e else Err (types_differ line)
 cast_from line (Some type_of.Void) e = Err (types_differ line)
 
 -- ---- calls
 
--- the row that is called as a function of this name
-unfoldable pub row_named : List ℕ → Option Row
-row_named name =
-    cond (bytes_eq name (codes "SvIV")) (Some SvIv)
-    (cond (bytes_eq name (codes "ST")) (Some StRead)
-    (cond (bytes_eq name (codes "sv_newmortal")) (Some SvNewMortal)
-    (cond (bytes_eq name (codes "sv_setiv")) (Some SvSetIv)
-    (cond (bytes_eq name (codes "XSRETURN")) (Some XsReturn) None))))
+-- whether an expression of a type may be an operand of a type
+abbrev pub is_of_operand_type : ApiType → ValueType → Bool
+is_of_operand_type (api.Number kind) t = is_number t
+is_of_operand_type api.Scalar t = is_scalar t
+is_of_operand_type _ t = false
 
--- what the operands of a row have to be
-abbrev pub sorts_of : Row → List OperandSort
-sorts_of SvIv = AScalar ∷ []
-sorts_of StRead = ANumber ∷ []
-sorts_of SvSetIv = AScalar ∷ ANumber ∷ []
-sorts_of XsReturn = ANumber ∷ []
-sorts_of StSet = AScalar ∷ ANumber ∷ []
-sorts_of _ = []
+-- the type of an expression that is a row's result
+abbrev pub result_type : ApiType → ValueType
+result_type (api.Number kind) = type_of.Number kind
+result_type api.Scalar = type_of.Scalar
+result_type _ = type_of.Void
 
--- what a row gives
-abbrev pub type_given : Row → ValueType
-type_given SvIv = type_of.Number I64
-type_given StRead = type_of.Scalar
-type_given SvNewMortal = type_of.Scalar
-type_given StSet = type_of.Scalar
-type_given _ = type_of.Void
-
-abbrev pub is_sort : OperandSort → ValueType → Bool
-is_sort ANumber t = is_number t
-is_sort AScalar t = is_scalar t
-
-abbrev pub first_fits : List OperandSort → ValueType → Bool
+abbrev pub first_fits : List ApiType → ValueType → Bool
 first_fits [] t = true
-first_fits (s ∷ sorts) t = is_sort s t
+first_fits (s ∷ operand_types) t = is_of_operand_type s t
 
-abbrev pub others : List OperandSort → List OperandSort
+abbrev pub others : List ApiType → List ApiType
 others [] = []
-others (s ∷ sorts) = sorts
+others (s ∷ operand_types) = operand_types
 
-abbrev pub wanted : Option Row → List OperandSort
-wanted None = []
-wanted (Some r) = sorts_of r
+abbrev pub expected_operands : Option RowCall → List ApiType
+expected_operands None = []
+expected_operands (Some r) = r.operands
 
 abbrev pub expr_count : ExprTrees → ℕ
 expr_count NoExprs = 0
 expr_count (MoreExprs a all) = suc (expr_count all)
 
-abbrev pub called : ℕ → List ℕ → ℕ → Option Row → Operands → Result Typed_tree Fault
-called line name count None xs = Err (unknown 802 line name)
+abbrev pub called : ℕ → List ℕ → ℕ → Option RowCall → Operands → Result Typed_tree Fault
+called line name count None xs = Err (unknown UNKNOWN_FUNCTION line name)
 called line name count (Some r) xs =
-    cond (nat_eq count (length (sorts_of r))) (cond xs.fit (typed (ApiRow r xs.trees) (type_given r)) (Err (types_differ line))) (Err (fault line 805 name))
+    if nat_eq count (length r.operands)
+    then if xs.fit then typed (ApiRow r.row xs.trees) (result_type r.result)
+    else Err (types_differ line)
+    else Err (wrong_count line name)
 
 abbrev pub usage_word : List ℕ
 usage_word = codes "croak_xs_usage"
@@ -240,16 +245,16 @@ text_in (syntax.Two line o a b) = None
 text_in (syntax.Cast line to a) = None
 
 abbrev pub usage_of : ℕ → Bool → Option (List ℕ) → Result Typed_tree Fault
-usage_of line true (Some text) = typed (ApiRow (CroakUsage text) NoTrees) type_of.Void
+usage_of line true (Some text) = typed (CroakUsage text) type_of.Void
 usage_of line true None = Err (types_differ line)
 usage_of line false text = Err (types_differ line)
 
 -- croak_xs_usage takes the word cv and a text
 abbrev pub usage : ℕ → ExprTrees → Result Typed_tree Fault
-usage line NoExprs = Err (fault line 805 usage_word)
-usage line (MoreExprs a NoExprs) = Err (fault line 805 usage_word)
+usage line NoExprs = Err (wrong_count line usage_word)
+usage line (MoreExprs a NoExprs) = Err (wrong_count line usage_word)
 usage line (MoreExprs a (MoreExprs b NoExprs)) = usage_of line (is_cv a) (text_in b)
-usage line (MoreExprs a (MoreExprs b (MoreExprs c more))) = Err (fault line 805 usage_word)
+usage line (MoreExprs a (MoreExprs b (MoreExprs c more))) = Err (wrong_count line usage_word)
 
 module _ (variables : List Local) where
   unfoldable mutual
@@ -257,7 +262,10 @@ module _ (variables : List Local) where
     expr (syntax.Var line name) = use_of line name (variable_of variables name)
     expr (syntax.Num line value) = literal value
     expr (syntax.Str line text) = Err (types_differ line)
-    expr (syntax.Call line name args) = cond (bytes_eq name usage_word) (usage line args) (exprs (wanted (row_named name)) args >>= called line name (expr_count args) (row_named name))
+    expr (syntax.Call line name args) =
+        if bytes_eq name usage_word then usage line args
+        else (exprs (expected_operands (row_named name)) args >>= called line name (expr_count args)
+        (row_named name))
     expr (syntax.Set line place value) = do
       p ← place_in place
       x ← expr value
@@ -270,12 +278,16 @@ module _ (variables : List Local) where
       x ← expr a
       cast_from line (type_named to) x
 
-    pub exprs : List OperandSort → ExprTrees → Result Operands Fault
-    exprs sorts NoExprs = Ok (record { trees = NoTrees; fit = true })
-    exprs sorts (MoreExprs a all) = do
+    pub exprs : List ApiType → ExprTrees → Result Operands Fault
+    exprs operand_types NoExprs = Ok (record { trees = NoTrees; fit = true })
+    exprs operand_types (MoreExprs a all) = do
       x ← expr a
-      xs ← exprs (others sorts) all
-      Ok (record { trees = MoreTrees x.tree xs.trees; fit = first_fits sorts x.of_type && xs.fit })
+      xs ← exprs (others operand_types) all
+      Ok (record {
+        trees = MoreTrees x.tree xs.trees;
+        fit = first_fits operand_types x.of_type
+            && xs.fit;
+      })
 
     pub place_in : PlaceTree → Result Target Fault
     place_in (VarPlace line name) = target line name (variable_of variables name)
@@ -285,7 +297,7 @@ module _ (variables : List Local) where
 
 -- ---- statements
 
--- what a statement, or a list of statements, means, with the scope behind it
+-- what a statement, or a list of statements, means, with the scope after it
 pub record Done (T : Type 0) : Type 0 where
   pub tree : T
   pub scope : Scope
@@ -296,27 +308,36 @@ done scope t = Ok (record { tree = t; scope = scope })
 abbrev pub row_done : Scope → Row → Result (Done Tree) Fault
 row_done scope row = done scope (Forget (ApiRow row NoTrees))
 
--- a scope in which the first so many variables are known still, and the slots of the others are not used again
+-- a scope in which the first so many variables are known still, and the slots of the others are not
+-- used again
 abbrev pub knowing : ℕ → Scope → Scope
-knowing count scope = record { variables = take count scope.variables; slots = scope.slots; entered = scope.entered; in_boot = scope.in_boot }
+knowing count scope = record scope { variables = take count scope.variables }
 
--- the scope behind a block: the variables of the block are known no more
-abbrev pub behind_block : Scope → Scope → Scope
-behind_block scope inner = knowing (length scope.variables) inner
+-- the scope after a block: the variables of the block are known no more
+abbrev pub after_block : Scope → Scope → Scope
+after_block scope inner = knowing (length scope.variables) inner
 
 abbrev pub with_variable : Scope → List ℕ → ValueType → Scope
-with_variable scope name t = record { variables = scope.variables ++ record { name = name; of_type = t; slot = scope.slots } ∷ []; slots = scope.slots + 1; entered = scope.entered; in_boot = scope.in_boot }
+with_variable scope name t =
+    record scope {
+      variables = scope.variables ++ record { name = name; of_type = t; slot = scope.slots }
+          ∷ [];
+      slots = scope.slots + 1;
+    }
 
 abbrev pub with_entry : Scope → Scope
-with_entry scope = record { variables = scope.variables; slots = scope.slots; entered = true; in_boot = scope.in_boot }
+with_entry scope = record scope { entered = true }
 
--- whether a name may not be declared: it is known here, in this block or an outer one, or means something to the XS interface
-unfoldable pub is_taken : List Local → List ℕ → Bool
-is_taken variables name = is_interface_word name || is_some (variable_of variables name)
+-- whether a name may not be declared: it is known here, in this block or an outer one, or means
+-- something to the XS interface
+unfoldable pub is_in_use : List Local → List ℕ → Bool
+is_in_use variables name = is_interface_word name || is_some (variable_of variables name)
 
 abbrev pub declared : ℕ → Scope → List ℕ → Option ValueType → Result (Done Tree) Fault
 declared line scope name None = Err (types_differ line)
-declared line scope name (Some t) = cond (is_taken scope.variables name) (Err (declared_twice line name)) (done (with_variable scope name t) (Declare scope.slots))
+declared line scope name (Some t) =
+    if is_in_use scope.variables name then Err (declared_twice line name)
+    else done (with_variable scope name t) (Declare scope.slots)
 
 -- a condition is a number or a scalar's pointer
 abbrev pub is_condition : ValueType → Bool
@@ -325,33 +346,38 @@ is_condition type_of.Scalar = true
 is_condition type_of.Void = false
 
 abbrev pub a_condition : ℕ → Typed_tree → Result Tree Fault
-a_condition line e = cond (is_condition e.of_type) (Ok e.tree) (Err (types_differ line))
+a_condition line e = if is_condition e.of_type then Ok e.tree else Err (types_differ line)
 
 abbrev pub registered_as : ℕ → Scope → List ℕ → List ℕ → Option ℕ → Result (Done Tree) Fault
-registered_as line scope full function None = Err (fault line 802 function)
-registered_as line scope full function (Some f) = cond scope.in_boot (row_done scope (NewXs full f)) (Err (not_allowed line (codes "newXS_deffile")))
+registered_as line scope full function None = Err (fault line UNKNOWN_FUNCTION function)
+registered_as line scope full function (Some f) =
+    if scope.in_boot then done scope (Forget (Register full f))
+    else Err (not_allowed line (codes "newXS_deffile"))
 
--- where a name stands among the names of a file's functions
-abbrev pub place_from : ℕ → List (List ℕ) → List ℕ → Option ℕ
-place_from i names name = position_from (λ n. bytes_eq n name) i names
+-- the index of a name among the names of a file's functions
+abbrev pub index_from : ℕ → List (List ℕ) → List ℕ → Option ℕ
+index_from i names name = position_from (λ n. bytes_eq n name) i names
 
-unfoldable pub place_of : List (List ℕ) → List ℕ → Option ℕ
-place_of names name = place_from 0 names name
+unfoldable pub index_of : List (List ℕ) → List ℕ → Option ℕ
+index_of names name = index_from 0 names name
 
 abbrev pub entry : ℕ → Scope → Result (Done Tree) Fault
-entry line scope = cond scope.entered (Err (not_allowed line (codes "dXSARGS"))) (row_done (with_entry scope) Entry)
+entry line scope =
+    if scope.entered then Err (not_allowed line (codes "dXSARGS"))
+    else row_done (with_entry scope) Entry
 
 module _ (names : List (List ℕ)) where
   unfoldable pub perl : ℕ → Scope → PerlForm → Result (Done Tree) Fault
   perl line scope form.DxsArgs = entry line scope
   perl line scope form.XsReturnYes = row_done scope XsReturnYes
-  perl line scope (form.NewXs full function) = registered_as line scope full function (place_of names function)
+  perl line scope (form.NewXs full function) =
+      registered_as line scope full function (index_of names function)
 
   unfoldable mutual
     pub stmt : Scope → StmtTree → Result (Done Tree) Fault
     stmt scope (syntax.Block line body) = do
       inner ← stmts scope body
-      done (behind_block scope inner.scope) (Block inner.tree)
+      done (after_block scope inner.scope) (Block inner.tree)
     stmt scope (syntax.Declare line t name) = declared line scope name (type_named t)
     stmt scope (syntax.Effect line e) = do
       x ← expr scope.variables e
@@ -384,24 +410,31 @@ abbrev pub at_begin : List ℕ → Scope
 at_begin name = record { variables = []; slots = 0; entered = false; in_boot = is_boot_name name }
 
 abbrev pub function_done : FunctionTree → Done Trees → Function
-function_done f body = record { name = f.name; is_boot = is_boot_name f.name; slots = body.scope.slots; body = Block body.tree }
+function_done f body =
+    record {
+      name = f.name;
+      is_boot = is_boot_name f.name;
+      slots = body.scope.slots;
+      body = Block body.tree;
+    }
 
--- whether a place is there and before another
+-- whether an index is there and below another
 abbrev pub is_earlier : Option ℕ → ℕ → Bool
 is_earlier None at = false
-is_earlier (Some place) at = nat_lt place at
+is_earlier (Some index) at = nat_lt index at
 
 module _ (names : List (List ℕ)) where
-  -- The function at a place among the file's functions. No earlier function has its name.
+  -- The function at an index among the file's functions. No earlier function has its name.
   unfoldable pub function : ℕ → FunctionTree → Result Function Fault
   function at f = do
     body ← stmts names (at_begin f.name) f.body
-    cond (is_earlier (place_of names f.name) at) (Err (declared_twice f.line f.name)) (Ok (function_done f body))
+    if is_earlier (index_of names f.name) at then Err (declared_twice f.line f.name)
+        else Ok (function_done f body)
 
   abbrev pub item : ℕ → ItemTree → Result Function Fault
   item at (XsFunction f) = function at f
 
-  -- the functions from a place on, behind those before it
+  -- the functions from an index on, after those before it
   abbrev pub functions : ℕ → List Function → List ItemTree → Result (List Function) Fault
   functions at before [] = Ok before
   functions at before (f ∷ all) = do

@@ -1,10 +1,11 @@
 //! Resolved code: names are slots, and every node knows its type.
 ghost use Rattle.std.specs.Option.{option_copied};
-ghost use Rattle.std.specs.Prelude.{◌≡◌, ◌<◌, ◌^◌, IfOk, IfSome, length, slice_get, true};
+ghost use Rattle.std.specs.Prelude.{◌≡◌, ◌<◌, ◌^◌, IfOk, IfSome, [], length, slice_get, slice_index_or, true};
 ghost use Rattle.xs_ccheck.specs.Arena.{InOrder};
 
 use std::alloc::Global;
 use xs_base::{Bytes, Memory};
+use xs_perlapi::Row;
 use xs_values::{CInt, Kind, Op};
 
 /// The type of an expression of C.
@@ -16,32 +17,7 @@ pub enum ValueType {
     Void,
 }
 
-/// A row of the API as a node has it: a text is named by its place among the texts.
-#[derive(Clone, Copy, Debug, PartialEq, Eq)]
-pub enum RowNode {
-    /// `dXSARGS`
-    Entry,
-    /// `ST(i)`
-    StRead,
-    /// `SvIV`
-    SvIv,
-    /// `sv_newmortal`
-    SvNewMortal,
-    /// `sv_setiv`
-    SvSetIv,
-    /// `ST(i) = s`
-    StSet,
-    /// `XSRETURN`
-    XsReturn,
-    /// `XSRETURN_YES`
-    XsReturnYes,
-    /// `croak_xs_usage` with the text of the parameters.
-    CroakUsage(u32),
-    /// `newXS_deffile` with the Perl name's text and the number of the function.
-    NewXs(u32, u32),
-}
-
-/// A node of the resolved tree. Its parts are named by their places, and stand before it.
+/// A node of the resolved tree. Its parts are named by their indices, and stand before it.
 #[derive(Clone, Copy, Debug)]
 pub enum Node {
     Literal(CInt),
@@ -51,8 +27,13 @@ pub enum Node {
     Assign(u32, ValueType, u32),
     Binary(Op, u32, u32),
     Convert(Kind, u32),
-    /// A row and the list of its operands.
-    ApiRow(RowNode, u32),
+    /// A row of Perl's API and the list of its operands.
+    ApiRow(Row, u32),
+    /// `croak_xs_usage` with the text of the parameters, by its index among the texts.
+    CroakUsage(u32),
+    /// `newXS_deffile` with the Perl name, by its index among the texts, and the number of the
+    /// function.
+    Register(u32, u32),
     /// The list of the statements.
     Block(u32),
     /// The condition, and what is run where it holds and where it does not.
@@ -73,7 +54,7 @@ pub struct FunctionNode {
     pub is_boot: bool,
     /// How many slots its variables have.
     pub slots: u32,
-    /// The place of its body.
+    /// The index of its body's node.
     pub body: u32,
 }
 
@@ -91,13 +72,28 @@ impl Typed {
     ghost use Rattle.xs_ccheck.specs.Arena.{is_before, tree_from, trees_from, tree_at, trees_at};
     ghost use Rattle.xs_ccheck.specs.Functions.{Callee, boot_at, code_of, function_at, name_of};
 
-    /// The node at a place. Its tree is made of its parts' trees.
+    /// The node at an index. Its tree is made of its parts' trees.
     pub fn node(&self, i: u32) -> Option<Node>
         ensures before { IfSome result (λ n. is_before i n ≡ true) }
-        ensures tree { tree_at self.now.texts.items self.now.nodes.items i ≡ tree_from self.now.texts.items result (tree_at self.now.texts.items self.now.nodes.items) (trees_at self.now.texts.items self.now.nodes.items) }
-        ensures trees { trees_at self.now.texts.items self.now.nodes.items i ≡ trees_from result (tree_at self.now.texts.items self.now.nodes.items) (trees_at self.now.texts.items self.now.nodes.items) }
+        ensures tree { tree_at self.now.texts.items self.now.nodes.items i
+            ≡ tree_from self.now.texts.items result
+            (tree_at self.now.texts.items self.now.nodes.items)
+            (trees_at self.now.texts.items self.now.nodes.items) }
+        ensures trees { trees_at self.now.texts.items self.now.nodes.items i
+            ≡ trees_from result (tree_at self.now.texts.items self.now.nodes.items)
+            (trees_at self.now.texts.items self.now.nodes.items) }
     {
         node_in(&self.nodes, i)
+    }
+
+    /// The text of a number, which is empty where there is no such text.
+    pub fn text(&self, at: u32) -> &[u8]
+        ensures { result.now ≡ slice_index_or self.now.texts.items at [] }
+    {
+        match self.texts.get(at as usize) {
+            None => &[],
+            Some(text) => text.as_slice(),
+        }
     }
 
     /// The number of the boot function.
@@ -156,7 +152,7 @@ fn node_in(nodes: &Vec<Node>, i: u32) -> Option<Node>
     nodes.get(i as usize).copied()
 }
 
-/// A function as the machine enters it: how many slots it has, and the place of its body.
+/// A function as the machine enters it: how many slots it has, and the index of its body's node.
 #[derive(Clone, Copy, Debug)]
 pub struct Callable {
     pub slots: u32,

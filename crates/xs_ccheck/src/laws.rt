@@ -1,5 +1,5 @@
 //! The law of the types stage. Its function does nothing: its contract is what is proved.
-ghost use Rattle.xs_ccheck.specs.Law.{TypesWithoutLines};
+ghost use Rattle.xs_ccheck.specs.Laws.{TypesWithoutLines};
 
 /// Files that are equal but for lines have the same code.
 #[tactic(auto, using(crate::proofs::Unlined::types_without_lines))]

@@ -1,4 +1,5 @@
-//! The types stage: a C file becomes code whose names are slots and whose types are right, or its first fault is told.
+//! The types stage: a C file becomes code whose names are slots and whose types are right, or its
+//! first fault is reported.
 #![tactic(auto)]
 
 mod code;
@@ -9,6 +10,6 @@ mod resolve_names;
 mod resolve_nodes;
 mod resolve_stmts;
 
-pub use code::{Callable, FunctionNode, Node, RowNode, Typed, ValueType};
+pub use code::{Callable, FunctionNode, Node, Typed, ValueType};
 pub use laws::types_do_not_depend_on_lines;
 pub use resolve::check_file;

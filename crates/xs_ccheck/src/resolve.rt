@@ -1,7 +1,7 @@
 //! The types stage: a C file becomes code whose names are resolved and whose types are checked.
 ghost use Rattle.std.specs.Prelude.{◌≡◌, ◌<◌, map, []};
 ghost use Rattle.xs_base.specs.Reading.{GivesBy};
-ghost use Rattle.xs_csyn.specs.View.{file_tree, function_tree, item_tree};
+ghost use Rattle.xs_csyn.specs.TreeViews.{file_tree, function_tree, item_tree};
 ghost use Rattle.xs_ccheck.specs.Functions.{code_of};
 ghost use Rattle.xs_ccheck.specs.Growth.{functions_in};
 ghost use Rattle.xs_ccheck.specs.ResolvingStmts.{GivesFunction, GivesFunctions, GivesNodes, names_in};
@@ -11,7 +11,7 @@ use crate::Typed;
 use crate::code::{FunctionNode, Node};
 use crate::resolve_names::{Scope, declared_twice};
 use crate::resolve_nodes::Nodes;
-use crate::resolve_stmts::{place_of, stmts};
+use crate::resolve_stmts::{index_of, stmts};
 use std::alloc::Global;
 use xs_base::Refuse;
 use xs_csyn::{CFile, FileItem, XsFun};
@@ -24,17 +24,17 @@ fn is_boot_name(name: &[u8]) -> bool
     name.starts_with(b"boot_")
 }
 
-// Whether a place is there and before another.
-fn is_earlier(place: Option<usize>, at: usize) -> bool
-    ensures { result ≡ spec.is_earlier place at }
+// Whether an index is there and below another.
+fn is_earlier(index: Option<usize>, at: usize) -> bool
+    ensures { result ≡ spec.is_earlier index at }
 {
-    match place {
+    match index {
         None => false,
-        Some(place) => place < at,
+        Some(index) => index < at,
     }
 }
 
-// The function at a place among the file's functions.
+// The function at an index among the file's functions.
 #[tactic(auto, unfolding(crate::specs::Typing::function))]
 fn function(
     alloc: Global,
@@ -43,14 +43,15 @@ fn function(
     at: usize,
     f: &XsFun,
 ) -> Result<(), Refuse>
-    ensures { GivesFunction result nodes.old nodes.new (spec.function (names_in items.now) at (function_tree f.now)) }
+    ensures { GivesFunction result nodes.old nodes.new
+        (spec.function (names_in items.now) at (function_tree f.now)) }
 {
     let name = f.name.copy(alloc)?;
     let is_boot = is_boot_name(f.name.as_slice());
     let mut scope = Scope::new(alloc, is_boot);
     let statements = stmts(alloc, nodes, &mut scope, items, f.body.as_slice())?;
     let body = nodes.add(Node::Block(statements))?;
-    if is_earlier(place_of(items, f.name.as_slice()), at) {
+    if is_earlier(index_of(items, f.name.as_slice()), at) {
         return Err(declared_twice(f.line, name));
     }
     let slots = scope.slots();
@@ -70,7 +71,8 @@ fn item(
     at: usize,
     item: &FileItem,
 ) -> Result<(), Refuse>
-    ensures { GivesFunction result nodes.old nodes.new (spec.item (names_in items.now) at (item_tree item.now)) }
+    ensures { GivesFunction result nodes.old nodes.new
+        (spec.item (names_in items.now) at (item_tree item.now)) }
 {
     match item {
         FileItem::XsFun(f) => function(alloc, nodes, items, at, f),
@@ -79,7 +81,8 @@ fn item(
 
 fn functions(alloc: Global, nodes: &mut Nodes, items: &[FileItem]) -> Result<(), Refuse>
     requires { functions_in nodes.old ≡ [] }
-    ensures { GivesFunctions result nodes.new (spec.functions (names_in items.now) 0 [] (map item_tree items.now)) }
+    ensures { GivesFunctions result nodes.new
+        (spec.functions (names_in items.now) 0 [] (map item_tree items.now)) }
 {
     for (at, here) in items.iter().enumerate() {
         item(alloc, nodes, items, at, here)?;
@@ -88,7 +91,8 @@ fn functions(alloc: Global, nodes: &mut Nodes, items: &[FileItem]) -> Result<(),
 }
 
 fn resolved(alloc: Global, items: &[FileItem]) -> Result<Nodes, Refuse>
-    ensures { GivesNodes result (spec.functions (names_in items.now) 0 [] (map item_tree items.now)) }
+    ensures { GivesNodes result
+        (spec.functions (names_in items.now) 0 [] (map item_tree items.now)) }
 {
     let mut nodes = Nodes {
         nodes: Vec::new(alloc),
@@ -114,9 +118,9 @@ fn finished(nodes: Nodes) -> Typed
     }
 }
 
-/// Resolves the names of a C file and checks its types. The faults are of the text: 801 unknown name, 802 unknown function,
-/// 803 types differ, 804 declared twice, 805 wrong number of arguments, 806 not assignable, 807 word not allowed here. The
-/// first fault in the order of the text is told, and a node's own fault behind those of its parts.
+/// Resolves the names of a C file and checks its types. The faults are of the text, from
+/// `UNKNOWN_NAME` to `WORD_NOT_ALLOWED` of the fault codes. The first fault in the order of the
+/// text is reported, and a node's own fault after those of its parts.
 #[tactic(auto, unfolding(crate::specs::Typing::typed_of))]
 pub fn check_file(alloc: Global, f: CFile) -> Result<Typed, Refuse>
     ensures { GivesBy code_of result (spec.typed_of (file_tree f)) }

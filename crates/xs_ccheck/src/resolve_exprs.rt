@@ -1,27 +1,32 @@
 //! Expressions are resolved: names become slots, and types are checked.
-ghost use Rattle.std.specs.Prelude.{◌≡◌, ◌<◌, ◌&&◌, IfOk, IfSome, Ok, length, map, option_map, true, false, [], Some};
-ghost use Rattle.xs_csyn.specs.Tree.{exprs_of};
-ghost use Rattle.xs_csyn.specs.View.{plain, plain_place};
-ghost use Rattle.xs_ccheck.specs.Arena.{is_before, row_of, tree_from};
+ghost use Rattle.std.specs.Prelude.{◌≡◌, ◌<◌, ◌&&◌, IfOk, Ok, length, map, option_map, true, false, [], Some};
+ghost use Rattle.xs_csyn.specs.SyntaxTree.{exprs_of};
+ghost use Rattle.xs_csyn.specs.TreeViews.{expr_tree, place_tree};
+ghost use Rattle.xs_ccheck.specs.Arena.{is_before, tree_from};
 ghost use Rattle.xs_ccheck.specs.Growth.{trees_in, tree_in};
 ghost use Rattle.xs_ccheck.specs.declared.resolve_nodes.Nodes.{Nodes};
-ghost use Rattle.xs_ccheck.specs.Placed.{has_text, row_has_text};
+ghost use Rattle.xs_ccheck.specs.NamedParts.{has_text};
+ghost use Rattle.xs_perlapi.specs.Table.{signature_view};
 ghost use Rattle.xs_ccheck.specs.Resolving.{GivesExpr, GivesOperands, GivesTarget, IsThere, target_in};
 ghost use Rattle.std.specs.Option.{option_copied};
-ghost use Rattle.std.specs.Prelude.{cond, Err};
+ghost use Rattle.std.specs.Prelude.{if◌then◌else◌, Err};
 ghost use Rattle.xs_ccheck.specs.declared.code.ValueType.TheVariants as type_of;
-ghost use Rattle.xs_ccheck.specs.Tree.{ApiRow, CroakUsage, MoreTrees, NoTrees};
+ghost use Rattle.xs_ccheck.specs.TypedTree.{ApiRow, CroakUsage, MoreTrees, NoTrees};
 ghost use Rattle.xs_ccheck.specs.Typing as spec;
 
-use crate::code::{Node, RowNode, ValueType};
+use crate::code::{Node, ValueType};
 use crate::resolve_names::{
-    Found, Local, OperandSort, goes_into, is, is_number, is_scalar, is_sort, row_named, sorts_of,
-    type_given, type_named, types_differ, unknown, variable_of, worded,
+    Found, Local, goes_into, is, is_number, is_of_operand_type, is_scalar, result_type, type_named,
+    types_differ, unknown, variable_of, worded,
 };
 use crate::resolve_nodes::Nodes;
 use std::alloc::Global;
+use xs_base::fault_codes::{
+    NOT_ASSIGNABLE, UNKNOWN_FUNCTION, UNKNOWN_NAME, WRONG_NUMBER_OF_ARGUMENTS,
+};
 use xs_base::{Bytes, Fault, FileOf, Memory, Refuse};
 use xs_csyn::{BinaryOp, Expr, Place};
+use xs_perlapi::{ApiType, Row, Signature, row_named};
 use xs_values::{Kind, Op, common, wrap};
 
 /// The node of an expression, with its type.
@@ -31,14 +36,14 @@ pub struct TypedNode {
     pub of_type: ValueType,
 }
 
-/// The node of a list of operands, and whether each is of the sort that is wanted.
+/// The node of a list of operands, and whether each has the type that is wanted.
 #[derive(Clone, Copy, Debug)]
 pub struct OperandNodes {
     pub nodes: u32,
     pub fit: bool,
 }
 
-/// What is assigned to: a variable by its slot and type, or a place of the argument list.
+/// What is assigned to: a variable by its slot and type, or an item of the argument stack.
 #[derive(Clone, Copy, Debug)]
 pub enum TargetNode {
     Variable(u32, ValueType),
@@ -51,7 +56,9 @@ pub enum TargetNode {
 fn typed(nodes: &mut Nodes, node: Node, of_type: ValueType) -> Result<TypedNode, Refuse>
     requires before { is_before (length nodes.old.nodes.items) node ≡ true }
     requires texts { has_text (length nodes.old.texts.items) node ≡ true }
-    ensures { GivesExpr result nodes.old nodes.new (spec.typed (tree_from nodes.old.texts.items (Some node) (tree_in nodes.old) (trees_in nodes.old)) of_type) }
+    ensures { GivesExpr result nodes.old nodes.new
+        (spec.typed (tree_from nodes.old.texts.items (Some node) (tree_in nodes.old)
+        (trees_in nodes.old)) of_type) }
 {
     let node = nodes.add(node)?;
     Ok(TypedNode { node, of_type })
@@ -84,7 +91,7 @@ fn other_name(alloc: Global, nodes: &mut Nodes, line: u32, name: &[u8]) -> Resul
     if is(name, b"items") {
         return typed(nodes, Node::ItemCount, ValueType::Number(Kind::I32));
     }
-    Err(Refuse::Fault(unknown(alloc, 801, line, name)?))
+    Err(Refuse::Fault(unknown(alloc, UNKNOWN_NAME, line, name)?))
 }
 
 fn use_of(
@@ -144,7 +151,9 @@ fn operated(
 ) -> Result<TypedNode, Refuse>
     requires a_in { a.node < length nodes.old.nodes.items }
     requires b_in { b.node < length nodes.old.nodes.items }
-    ensures { GivesExpr result nodes.old nodes.new (spec.operated_as line op (tree_in nodes.old a.node) (tree_in nodes.old b.node) (spec.operated_type op a.of_type b.of_type)) }
+    ensures { GivesExpr result nodes.old nodes.new
+        (spec.operated_as line op (tree_in nodes.old a.node) (tree_in nodes.old b.node)
+        (spec.operated_type op a.of_type b.of_type)) }
 {
     match operated_type(op, a.of_type, b.of_type) {
         None => Err(types_differ(alloc, line)),
@@ -160,7 +169,8 @@ fn cast_from(
     e: TypedNode,
 ) -> Result<TypedNode, Refuse>
     requires { e.node < length nodes.old.nodes.items }
-    ensures { GivesExpr result nodes.old nodes.new (spec.cast_from line to (record { tree = tree_in nodes.old e.node; of_type = e.of_type })) }
+    ensures { GivesExpr result nodes.old nodes.new
+        (spec.cast_from line to (record { tree = tree_in nodes.old e.node; of_type = e.of_type })) }
 {
     match to {
         Some(ValueType::Number(kind)) if is_number(e.of_type) => typed(
@@ -182,9 +192,9 @@ fn target(alloc: Global, line: u32, name: &[u8], found: Option<Found>) -> Result
         return Ok(TargetNode::Variable(v.slot, v.of_type));
     }
     if is(name, b"items") {
-        return Err(Refuse::Fault(Fault::bare(alloc, FileOf::Text, line, 806)));
+        return Err(Refuse::Fault(Fault::bare(alloc, FileOf::Text, line, NOT_ASSIGNABLE)));
     }
-    Err(Refuse::Fault(unknown(alloc, 801, line, name)?))
+    Err(Refuse::Fault(unknown(alloc, UNKNOWN_NAME, line, name)?))
 }
 
 fn put(
@@ -196,7 +206,9 @@ fn put(
 ) -> Result<TypedNode, Refuse>
     requires to_in { IsThere nodes.old to }
     requires e_in { e.node < length nodes.old.nodes.items }
-    ensures { GivesExpr result nodes.old nodes.new (spec.put line (target_in nodes.old to) (record { tree = tree_in nodes.old e.node; of_type = e.of_type })) }
+    ensures { GivesExpr result nodes.old nodes.new
+        (spec.put line (target_in nodes.old to)
+        (record { tree = tree_in nodes.old e.node; of_type = e.of_type })) }
 {
     match to {
         TargetNode::Variable(slot, t) => {
@@ -220,16 +232,19 @@ fn put(
 fn store(nodes: &mut Nodes, at: u32, e: u32) -> Result<TypedNode, Refuse>
     requires at_in { at < length nodes.old.nodes.items }
     requires e_in { e < length nodes.old.nodes.items }
-    ensures { GivesExpr result nodes.old nodes.new (spec.stored (tree_in nodes.old at) (tree_in nodes.old e)) }
+    ensures { GivesExpr result nodes.old nodes.new
+        (spec.stored (tree_in nodes.old at) (tree_in nodes.old e)) }
 {
     let none = nodes.add(Node::NoTrees)?;
     let place = nodes.add(Node::MoreTrees(at, none))?;
     let both = nodes.add(Node::MoreTrees(e, place))?;
-    typed(nodes, Node::ApiRow(RowNode::StSet, both), ValueType::Scalar)
+    typed(nodes, Node::ApiRow(Row::StSet, both), ValueType::Scalar)
 }
 
 fn item_place(alloc: Global, line: u32, e: TypedNode) -> Result<TargetNode, Refuse>
-    ensures { (b : Nodes) → e.node < length b.nodes.items → GivesTarget result b b (spec.item_place line (record { tree = tree_in b e.node; of_type = e.of_type })) }
+    ensures { (b : Nodes) → e.node < length b.nodes.items
+        → GivesTarget result b b
+        (spec.item_place line (record { tree = tree_in b e.node; of_type = e.of_type })) }
 {
     if is_number(e.of_type) {
         Ok(TargetNode::Item(e.node))
@@ -240,35 +255,36 @@ fn item_place(alloc: Global, line: u32, e: TypedNode) -> Result<TargetNode, Refu
 
 // ---- calls
 
-fn wanted(row: Option<RowNode>) -> &'static [OperandSort]
-    ensures { result.now ≡ spec.wanted (option_map (row_of []) row) }
+fn expected_operands(row: Option<Signature>) -> &'static [ApiType]
+    ensures { result.now ≡ spec.expected_operands (option_map signature_view row) }
 {
     match row {
         None => &[],
-        Some(row) => sorts_of(row),
+        Some(row) => row.operands,
     }
 }
 
-fn others(sorts: &[OperandSort]) -> &[OperandSort]
-    ensures { result.now ≡ spec.others sorts.now }
+fn others(operand_types: &[ApiType]) -> &[ApiType]
+    ensures { result.now ≡ spec.others operand_types.now }
 {
-    match sorts.split_first() {
-        None => sorts,
+    match operand_types.split_first() {
+        None => operand_types,
         Some((_, others)) => others,
     }
 }
 
-fn first_fits(sorts: &[OperandSort], t: ValueType) -> bool
-    ensures { result ≡ spec.first_fits sorts.now t }
+fn first_fits(operand_types: &[ApiType], t: ValueType) -> bool
+    ensures { result ≡ spec.first_fits operand_types.now t }
 {
-    match sorts.first() {
+    match operand_types.first() {
         None => true,
-        Some(sort) => is_sort(*sort, t),
+        Some(operand_type) => is_of_operand_type(*operand_type, t),
     }
 }
 
 fn no_operands(nodes: &mut Nodes) -> Result<OperandNodes, Refuse>
-    ensures { GivesOperands result nodes.old nodes.new (Ok (record { trees = NoTrees; fit = true })) }
+    ensures { GivesOperands result nodes.old nodes.new
+        (Ok (record { trees = NoTrees; fit = true })) }
 {
     let nodes = nodes.add(Node::NoTrees)?;
     Ok(OperandNodes { nodes, fit: true })
@@ -282,7 +298,11 @@ fn more_operands(
 ) -> Result<OperandNodes, Refuse>
     requires first_in { first < length nodes.old.nodes.items }
     requires others_in { others < length nodes.old.nodes.items }
-    ensures { GivesOperands result nodes.old nodes.new (Ok (record { trees = MoreTrees (tree_in nodes.old first) (trees_in nodes.old others); fit = fit })) }
+    ensures { GivesOperands result nodes.old nodes.new
+        (Ok (record {
+          trees = MoreTrees (tree_in nodes.old first) (trees_in nodes.old others);
+          fit = fit;
+        })) }
 {
     let nodes = nodes.add(Node::MoreTrees(first, others))?;
     Ok(OperandNodes { nodes, fit })
@@ -292,24 +312,29 @@ fn called_row(
     alloc: Global,
     nodes: &mut Nodes,
     line: u32,
-    row: RowNode,
+    row: Signature,
     xs: OperandNodes,
 ) -> Result<TypedNode, Refuse>
-    requires bare { row_has_text 0 row ≡ true }
-    requires xs_in { xs.nodes < length nodes.old.nodes.items }
-    ensures { GivesExpr result nodes.old nodes.new (cond xs.fit (spec.typed (ApiRow (row_of [] row) (trees_in nodes.old xs.nodes)) (spec.type_given (row_of [] row))) (Err (spec.types_differ line))) }
+    requires { xs.nodes < length nodes.old.nodes.items }
+    ensures { GivesExpr result nodes.old nodes.new
+        (if xs.fit then spec.typed (ApiRow row.row (trees_in nodes.old xs.nodes))
+        (spec.result_type row.result) else Err (spec.types_differ line)) }
 {
     if xs.fit {
-        typed(nodes, Node::ApiRow(row, xs.nodes), type_given(row))
+        typed(
+            nodes,
+            Node::ApiRow(row.row, xs.nodes),
+            result_type(row.result),
+        )
     } else {
         Err(types_differ(alloc, line))
     }
 }
 
 fn wrong_count(alloc: Global, line: u32, name: &[u8]) -> Result<Fault, Memory>
-    ensures { IfOk result (λ f. f ≡ spec.fault line 805 name.now) }
+    ensures { IfOk result (λ f. f ≡ spec.wrong_count line name.now) }
 {
-    worded(alloc, line, 805, name)
+    worded(alloc, line, WRONG_NUMBER_OF_ARGUMENTS, name)
 }
 
 fn called(
@@ -318,17 +343,18 @@ fn called(
     line: u32,
     name: &[u8],
     count: usize,
-    row: Option<RowNode>,
+    row: Option<Signature>,
     xs: OperandNodes,
 ) -> Result<TypedNode, Refuse>
-    requires bare { IfSome row (λ r. row_has_text 0 r ≡ true) }
-    requires xs_in { xs.nodes < length nodes.old.nodes.items }
-    ensures { GivesExpr result nodes.old nodes.new (spec.called line name.now count (option_map (row_of []) row) (record { trees = trees_in nodes.old xs.nodes; fit = xs.fit })) }
+    requires { xs.nodes < length nodes.old.nodes.items }
+    ensures { GivesExpr result nodes.old nodes.new
+        (spec.called line name.now count (option_map signature_view row)
+        (record { trees = trees_in nodes.old xs.nodes; fit = xs.fit })) }
 {
     match row {
-        None => { Err(Refuse::Fault(unknown(alloc, 802, line, name)?)) }
+        None => { Err(Refuse::Fault(unknown(alloc, UNKNOWN_FUNCTION, line, name)?)) }
         Some(row) => {
-            if count == sorts_of(row).len() {
+            if count == row.operands.len() {
                 called_row(alloc, nodes, line, row, xs)
             } else {
                 Err(Refuse::Fault(wrong_count(alloc, line, name)?))
@@ -339,9 +365,9 @@ fn called(
 
 // ---- the usage croak
 
-#[tactic(auto, using(xs_csyn::proofs::Views::views))]
+#[tactic(auto, using(xs_csyn::proofs::ViewsCompute::views))]
 fn is_cv(e: &Expr) -> bool
-    ensures { result ≡ spec.is_cv (plain e.now) }
+    ensures { result ≡ spec.is_cv (expr_tree e.now) }
 {
     match e {
         Expr::Name(_, name) => is(name.as_slice(), b"cv"),
@@ -355,9 +381,9 @@ fn is_cv(e: &Expr) -> bool
 }
 
 // A literal text.
-#[tactic(auto, using(xs_csyn::proofs::Views::views))]
+#[tactic(auto, using(xs_csyn::proofs::ViewsCompute::views))]
 fn text_in(e: &Expr) -> Option<&Bytes>
-    ensures { option_copied result ≡ spec.text_in (plain e.now) }
+    ensures { option_copied result ≡ spec.text_in (expr_tree e.now) }
 {
     match e {
         Expr::Text(_, text) => Some(text),
@@ -372,16 +398,12 @@ fn text_in(e: &Expr) -> Option<&Bytes>
 
 // The croak for wrong use, with the text of the parameters.
 fn croak_usage(alloc: Global, nodes: &mut Nodes, text: &Bytes) -> Result<TypedNode, Refuse>
-    ensures { GivesExpr result nodes.old nodes.new (spec.typed (ApiRow (CroakUsage text.now) NoTrees) type_of.Void) }
+    ensures { GivesExpr result nodes.old nodes.new
+        (spec.typed (CroakUsage text.now) type_of.Void) }
 {
     let text = text.copy(alloc)?;
-    let none = nodes.add(Node::NoTrees)?;
     let text = nodes.add_text(text)?;
-    typed(
-        nodes,
-        Node::ApiRow(RowNode::CroakUsage(text), none),
-        ValueType::Void,
-    )
+    typed(nodes, Node::CroakUsage(text), ValueType::Void)
 }
 
 fn usage_of(
@@ -391,7 +413,8 @@ fn usage_of(
     is_cv: bool,
     text: Option<&Bytes>,
 ) -> Result<TypedNode, Refuse>
-    ensures { GivesExpr result nodes.old nodes.new (spec.usage_of line is_cv (option_copied text.entry)) }
+    ensures { GivesExpr result nodes.old nodes.new
+        (spec.usage_of line is_cv (option_copied text.entry)) }
 {
     match text {
         Some(text) if is_cv => croak_usage(alloc, nodes, text),
@@ -400,7 +423,8 @@ fn usage_of(
 }
 
 fn usage(alloc: Global, nodes: &mut Nodes, line: u32, args: &[Expr]) -> Result<TypedNode, Refuse>
-    ensures { GivesExpr result nodes.old nodes.new (spec.usage line (exprs_of (map plain args.now))) }
+    ensures { GivesExpr result nodes.old nodes.new
+        (spec.usage line (exprs_of (map expr_tree args.now))) }
 {
     let Some((first, rest)) = args.split_first() else {
         return Err(Refuse::Fault(wrong_count(alloc, line, b"croak_xs_usage")?));
@@ -417,14 +441,14 @@ fn usage(alloc: Global, nodes: &mut Nodes, line: u32, args: &[Expr]) -> Result<T
 // ---- any expression
 
 #[cycle(expr)]
-#[tactic(auto, using(xs_csyn::proofs::Views::views), unfolding(crate::specs::Typing::expr))]
+#[tactic(auto, using(xs_csyn::proofs::ViewsCompute::views), unfolding(crate::specs::Typing::expr))]
 pub(crate) fn expr(
     alloc: Global,
     nodes: &mut Nodes,
     locals: &[Local],
     e: &Expr,
 ) -> Result<TypedNode, Refuse>
-    ensures { GivesExpr result nodes.old nodes.new (spec.expr locals.now (plain e.now)) }
+    ensures { GivesExpr result nodes.old nodes.new (spec.expr locals.now (expr_tree e.now)) }
 {
     match e {
         Expr::Name(line, name) => use_of(
@@ -441,7 +465,13 @@ pub(crate) fn expr(
                 return usage(alloc, nodes, *line, args.as_slice());
             }
             let row = row_named(name.as_slice());
-            let xs = exprs(alloc, nodes, locals, wanted(row), args.as_slice())?;
+            let xs = exprs(
+                alloc,
+                nodes,
+                locals,
+                expected_operands(row),
+                args.as_slice(),
+            )?;
             called(alloc, nodes, *line, name.as_slice(), args.len(), row, xs)
         }
         Expr::Assign(line, place, value) => {
@@ -462,34 +492,36 @@ pub(crate) fn expr(
 }
 
 #[cycle(expr)]
-#[tactic(auto, using(xs_csyn::proofs::Views::views), unfolding(crate::specs::Typing::expr))]
+#[tactic(auto, using(xs_csyn::proofs::ViewsCompute::views), unfolding(crate::specs::Typing::expr))]
 fn exprs(
     alloc: Global,
     nodes: &mut Nodes,
     locals: &[Local],
-    sorts: &[OperandSort],
+    operand_types: &[ApiType],
     args: &[Expr],
 ) -> Result<OperandNodes, Refuse>
-    ensures { GivesOperands result nodes.old nodes.new (spec.exprs locals.now sorts.now (exprs_of (map plain args.now))) }
+    ensures { GivesOperands result nodes.old nodes.new
+        (spec.exprs locals.now operand_types.now (exprs_of (map expr_tree args.now))) }
 {
     let Some((first, rest)) = args.split_first() else {
         return no_operands(nodes);
     };
     let x = expr(alloc, nodes, locals, first)?;
-    let xs = exprs(alloc, nodes, locals, others(sorts), rest)?;
-    let fit = first_fits(sorts, x.of_type) && xs.fit;
+    let xs = exprs(alloc, nodes, locals, others(operand_types), rest)?;
+    let fit = first_fits(operand_types, x.of_type) && xs.fit;
     more_operands(nodes, x.node, xs.nodes, fit)
 }
 
 #[cycle(expr)]
-#[tactic(auto, using(xs_csyn::proofs::Views::views), unfolding(crate::specs::Typing::expr))]
+#[tactic(auto, using(xs_csyn::proofs::ViewsCompute::views), unfolding(crate::specs::Typing::expr))]
 fn place_in(
     alloc: Global,
     nodes: &mut Nodes,
     locals: &[Local],
     place: &Place,
 ) -> Result<TargetNode, Refuse>
-    ensures { GivesTarget result nodes.old nodes.new (spec.place_in locals.now (plain_place place.now)) }
+    ensures { GivesTarget result nodes.old nodes.new
+        (spec.place_in locals.now (place_tree place.now)) }
 {
     match place {
         Place::Variable(line, name) => target(

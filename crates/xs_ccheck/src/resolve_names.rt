@@ -1,25 +1,18 @@
 //! Names, types and the variables that are in scope.
-ghost use Rattle.std.specs.Prelude.{◌≡◌, false, IfOk, IfSome, None, Some, [], option_map, true, ◌&&◌, nat_eq};
+ghost use Rattle.std.specs.Prelude.{◌≡◌, false, IfOk, None, Some, [], true, ◌&&◌, nat_eq};
 ghost use Rattle.std.specs.Str.{bytes_eq};
-ghost use Rattle.xs_ccheck.specs.Arena.{row_of};
 ghost use Rattle.xs_base.specs.declared.fault.Refuse.TheVariants as refuse;
-ghost use Rattle.xs_ccheck.specs.Placed.{row_has_text};
 ghost use Rattle.xs_ccheck.specs.Typing as spec;
 
-use crate::code::{RowNode, ValueType};
+use crate::code::ValueType;
 use std::alloc::Global;
 use std::marker::Model;
+use xs_base::fault_codes::{DECLARED_TWICE, TYPES_DIFFER, WORD_NOT_ALLOWED};
 use xs_base::{Bytes, Fault, FileOf, Memory, Refuse};
 use xs_csyn::CType;
 use xs_ctok::is_interface_word;
+use xs_perlapi::ApiType;
 use xs_values::Kind;
-
-/// What an operand of a row has to be.
-#[derive(Clone, Copy, Debug, PartialEq, Eq)]
-pub enum OperandSort {
-    ANumber,
-    AScalar,
-}
 
 /// A variable in scope, with its slot.
 #[derive(Debug, Drop)]
@@ -34,14 +27,14 @@ pub struct Local {
 pub(crate) fn types_differ(alloc: Global, line: u32) -> Refuse
     ensures { result ≡ refuse.Fault (spec.types_differ line) }
 {
-    Refuse::Fault(Fault::bare(alloc, FileOf::Text, line, 803))
+    Refuse::Fault(Fault::bare(alloc, FileOf::Text, line, TYPES_DIFFER))
 }
 
 // The fault of a name that is declared a second time.
 pub(crate) fn declared_twice(line: u32, name: Bytes) -> Refuse
     ensures { result ≡ refuse.Fault (spec.declared_twice line name) }
 {
-    Refuse::Fault(Fault::new(FileOf::Text, line, 804, name))
+    Refuse::Fault(Fault::new(FileOf::Text, line, DECLARED_TWICE, name))
 }
 
 // The fault of a word.
@@ -56,7 +49,7 @@ pub(crate) fn worded(alloc: Global, line: u32, code: u16, word: &[u8]) -> Result
 pub(crate) fn not_allowed(alloc: Global, line: u32, word: &[u8]) -> Result<Fault, Memory>
     ensures { IfOk result (λ f. f ≡ spec.not_allowed line word.now) }
 {
-    worded(alloc, line, 807, word)
+    worded(alloc, line, WORD_NOT_ALLOWED, word)
 }
 
 // The fault of a name that means nothing where it stands.
@@ -132,73 +125,24 @@ pub(crate) fn type_named(t: &CType) -> Option<ValueType>
 
 // ---- rows that are called as functions
 
-#[tactic(auto, unfolding(crate::specs::Typing::row_named))]
-pub(crate) fn row_named(name: &[u8]) -> Option<RowNode>
-    ensures row { spec.row_named name.now ≡ option_map (row_of []) result }
-    ensures bare { IfSome result (λ r. row_has_text 0 r ≡ true) }
+pub(crate) fn is_of_operand_type(operand_type: ApiType, t: ValueType) -> bool
+    ensures { result ≡ spec.is_of_operand_type operand_type t }
 {
-    if is(name, b"SvIV") {
-        return Some(RowNode::SvIv);
-    }
-    if is(name, b"ST") {
-        return Some(RowNode::StRead);
-    }
-    if is(name, b"sv_newmortal") {
-        return Some(RowNode::SvNewMortal);
-    }
-    if is(name, b"sv_setiv") {
-        return Some(RowNode::SvSetIv);
-    }
-    if is(name, b"XSRETURN") {
-        return Some(RowNode::XsReturn);
-    }
-    None
-}
-
-const NOTHING: [OperandSort; 0] = [];
-
-const ONE_NUMBER: [OperandSort; 1] = [OperandSort::ANumber];
-
-const ONE_SCALAR: [OperandSort; 1] = [OperandSort::AScalar];
-
-const SCALAR_AND_NUMBER: [OperandSort; 2] = [OperandSort::AScalar, OperandSort::ANumber];
-
-pub(crate) fn sorts_of(row: RowNode) -> &'static [OperandSort]
-    ensures { result.now ≡ spec.sorts_of (row_of [] row) }
-{
-    match row {
-        RowNode::SvIv => &ONE_SCALAR,
-        RowNode::StRead | RowNode::XsReturn => &ONE_NUMBER,
-        RowNode::SvSetIv | RowNode::StSet => &SCALAR_AND_NUMBER,
-        RowNode::Entry
-        | RowNode::SvNewMortal
-        | RowNode::XsReturnYes
-        | RowNode::CroakUsage(_)
-        | RowNode::NewXs(_, _) => &NOTHING,
+    match operand_type {
+        ApiType::Number(_) => is_number(t),
+        ApiType::Scalar => is_scalar(t),
+        _ => false,
     }
 }
 
-pub(crate) fn type_given(row: RowNode) -> ValueType
-    ensures { result ≡ spec.type_given (row_of [] row) }
+// The type of an expression that is a row's result.
+pub(crate) fn result_type(t: ApiType) -> ValueType
+    ensures { result ≡ spec.result_type t }
 {
-    match row {
-        RowNode::SvIv => ValueType::Number(Kind::I64),
-        RowNode::StRead | RowNode::SvNewMortal | RowNode::StSet => ValueType::Scalar,
-        RowNode::Entry
-        | RowNode::SvSetIv
-        | RowNode::XsReturn
-        | RowNode::XsReturnYes
-        | RowNode::CroakUsage(_)
-        | RowNode::NewXs(_, _) => ValueType::Void,
-    }
-}
-
-pub(crate) fn is_sort(sort: OperandSort, t: ValueType) -> bool
-    ensures { result ≡ spec.is_sort sort t }
-{
-    match sort {
-        OperandSort::ANumber => is_number(t),
-        OperandSort::AScalar => is_scalar(t),
+    match t {
+        ApiType::Number(kind) => ValueType::Number(kind),
+        ApiType::Scalar => ValueType::Scalar,
+        _ => ValueType::Void,
     }
 }
 
@@ -241,14 +185,20 @@ impl Model for Scope {
 
     ghost Value = { spec.Scope };
 
-    ghost view = { λ s. record { variables = s.locals.items; slots = s.slots; entered = s.entered; in_boot = s.in_boot } };
+    ghost view = { λ s. record {
+      variables = s.locals.items;
+      slots = s.slots;
+      entered = s.entered;
+      in_boot = s.in_boot;
+    } };
 }
 
 impl Scope {
     // Where the first statement of a function stands.
     #[tactic(auto)]
     pub(crate) fn new(alloc: Global, in_boot: bool) -> Scope
-        ensures { result ≡ record { variables = []; slots = 0; entered = false; in_boot = in_boot } }
+        ensures { result
+            ≡ record { variables = []; slots = 0; entered = false; in_boot = in_boot } }
     {
         Scope {
             locals: Vec::new(alloc),
@@ -288,17 +238,17 @@ impl Scope {
         self.entered = true;
     }
 
-    // Forgets the variables that were declared behind the first so many.
-    pub(crate) fn forget_behind(&mut self, count: usize)
+    // Forgets the variables that were declared after the first so many.
+    pub(crate) fn forget_after(&mut self, count: usize)
         ensures { self.new ≡ spec.knowing count self.old }
     {
         self.locals.truncate(count);
     }
 
     // Whether a name may not be declared.
-    #[tactic(auto, unfolding(crate::specs::Typing::is_taken))]
-    pub(crate) fn is_taken(&self, name: &[u8]) -> bool
-        ensures { result ≡ spec.is_taken self.now.variables name.now }
+    #[tactic(auto, unfolding(crate::specs::Typing::is_in_use))]
+    pub(crate) fn is_in_use(&self, name: &[u8]) -> bool
+        ensures { result ≡ spec.is_in_use self.now.variables name.now }
     {
         is_interface_word(name) || variable_of(self.locals.as_slice(), name).is_some()
     }
@@ -311,7 +261,8 @@ impl Scope {
         of_type: ValueType,
     ) -> Result<u32, Memory>
         ensures slot { IfOk result (λ slot. slot ≡ self.old.slots) }
-        ensures scope { IfOk result (λ slot. self.new ≡ spec.with_variable self.old name.now of_type) }
+        ensures scope { IfOk result (λ slot. self.new
+            ≡ spec.with_variable self.old name.now of_type) }
     {
         let slot = self.slots;
         let name = Bytes::from_slice(alloc, name)?;

@@ -1,7 +1,7 @@
 //! The nodes of a file while they are made: parts come before the whole.
 ghost use Rattle.std.specs.Prelude.{◌≡◌, ◌^◌, ◌<◌, IfOk, length, slice_index_or, true, []};
 ghost use Rattle.xs_ccheck.specs.Arena.{InOrder};
-ghost use Rattle.xs_ccheck.specs.Placed.{HasBodies, HasTexts};
+ghost use Rattle.xs_ccheck.specs.NamedParts.{HasBodies, HasTexts};
 
 use crate::code::{FunctionNode, Node};
 use xs_base::{Bytes, Memory};
@@ -17,12 +17,12 @@ pub(crate) struct Nodes {
     ghost few: { length functions.items < 2 ^ 32 },
 }
 
-// A place among so many.
-pub(crate) fn next_place(count: usize) -> Result<u32, Memory>
+// The index that comes after so many.
+pub(crate) fn next_index(count: usize) -> Result<u32, Memory>
     ensures { IfOk result (λ n. n ≡ count) }
 {
     match u32::try_from(count) {
-        Ok(place) => Ok(place),
+        Ok(index) => Ok(index),
         Err(_) => Err(Memory),
     }
 }
@@ -30,28 +30,28 @@ pub(crate) fn next_place(count: usize) -> Result<u32, Memory>
 impl Nodes {
     ghost use Rattle.xs_ccheck.specs.Arena.{is_before};
     ghost use Rattle.xs_ccheck.specs.Growth.{Added, AddedFunction, Keeps};
-    ghost use Rattle.xs_ccheck.specs.Placed.{has_text};
+    ghost use Rattle.xs_ccheck.specs.NamedParts.{has_text};
 
-    // Adds a node whose parts are there, and gives its place.
+    // Adds a node whose parts are there, and gives its index.
     pub(crate) fn add(&mut self, node: Node) -> Result<u32, Memory>
         requires before { is_before (length self.old.nodes.items) node ≡ true }
         requires texts { has_text (length self.old.texts.items) node ≡ true }
         ensures { IfOk result (λ n. Added self.old node n self.new) }
     {
-        let place = next_place(self.nodes.len())?;
+        let index = next_index(self.nodes.len())?;
         self.nodes.push(node)?;
-        Ok(place)
+        Ok(index)
     }
 
-    // Adds a text, and gives its place.
+    // Adds a text, and gives its index.
     pub(crate) fn add_text(&mut self, text: Bytes) -> Result<u32, Memory>
         ensures keeps { IfOk result (λ n. Keeps self.old self.new) }
         ensures below { IfOk result (λ n. n < length self.new.texts.items) }
         ensures text { IfOk result (λ n. slice_index_or self.new.texts.items n [] ≡ text) }
     {
-        let place = next_place(self.texts.len())?;
+        let index = next_index(self.texts.len())?;
         self.texts.push(text)?;
-        Ok(place)
+        Ok(index)
     }
 
     // Adds a function whose body is there.

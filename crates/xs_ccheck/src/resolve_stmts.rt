@@ -1,23 +1,25 @@
 //! Statements are resolved.
 ghost use Rattle.std.specs.Prelude.{◌≡◌, ◌<◌, None, Some, Ok, length, map, true, []};
-ghost use Rattle.xs_csyn.specs.Tree.{stmts_of};
-ghost use Rattle.xs_csyn.specs.View.{item_tree, plain_stmt};
-ghost use Rattle.xs_ccheck.specs.Arena.{is_before, row_of, tree_from};
+ghost use Rattle.xs_csyn.specs.SyntaxTree.{stmts_of};
+ghost use Rattle.xs_csyn.specs.TreeViews.{item_tree, stmt_tree};
+ghost use Rattle.xs_ccheck.specs.Arena.{is_before, tree_from};
 ghost use Rattle.xs_ccheck.specs.Growth.{tree_in, trees_in};
-ghost use Rattle.xs_ccheck.specs.Placed.{has_text, row_has_text};
+ghost use Rattle.xs_ccheck.specs.NamedParts.{has_text};
 ghost use Rattle.xs_ccheck.specs.ResolvingStmts.{GivesStmt, GivesStmts, names_in};
-ghost use Rattle.xs_ccheck.specs.Tree.{Block, If, MoreTrees, NewXs, NoTrees};
+ghost use Rattle.xs_ccheck.specs.TypedTree.{Block, Forget, If, MoreTrees, NoTrees, Register};
 ghost use Rattle.xs_ccheck.specs.Typing as spec;
 
-use crate::code::{Node, RowNode, ValueType};
+use crate::code::{Node, ValueType};
 use crate::resolve_exprs::expr;
 use crate::resolve_names::{
     Scope, declared_twice, is, not_allowed, type_named, types_differ, worded,
 };
-use crate::resolve_nodes::{Nodes, next_place};
+use crate::resolve_nodes::{Nodes, next_index};
 use std::alloc::Global;
+use xs_base::fault_codes::UNKNOWN_FUNCTION;
 use xs_base::{Bytes, Refuse};
 use xs_csyn::{FileItem, PerlForm, Stmt};
+use xs_perlapi::Row;
 
 // ---- single nodes
 
@@ -25,30 +27,34 @@ use xs_csyn::{FileItem, PerlForm, Stmt};
 fn done(nodes: &mut Nodes, node: Node) -> Result<u32, Refuse>
     requires before { is_before (length nodes.old.nodes.items) node ≡ true }
     requires texts { has_text (length nodes.old.texts.items) node ≡ true }
-    ensures { (scope : spec.Scope) → GivesStmt result nodes.old nodes.new scope (spec.done scope (tree_from nodes.old.texts.items (Some node) (tree_in nodes.old) (trees_in nodes.old))) }
+    ensures { (scope : spec.Scope)
+        → GivesStmt result nodes.old nodes.new scope
+        (spec.done scope (tree_from nodes.old.texts.items (Some node) (tree_in nodes.old)
+        (trees_in nodes.old))) }
 {
-    let place = nodes.add(node)?;
-    Ok(place)
+    let index = nodes.add(node)?;
+    Ok(index)
 }
 
-// A row that names no text and takes no operands.
-fn bare_row(nodes: &mut Nodes, row: RowNode) -> Result<u32, Refuse>
-    requires { row_has_text 0 row ≡ true }
-    ensures { (scope : spec.Scope) → GivesStmt result nodes.old nodes.new scope (spec.row_done scope (row_of [] row)) }
+// A row that takes no operands.
+fn bare_row(nodes: &mut Nodes, row: Row) -> Result<u32, Refuse>
+    ensures { (scope : spec.Scope)
+        → GivesStmt result nodes.old nodes.new scope (spec.row_done scope row) }
 {
     let none = nodes.add(Node::NoTrees)?;
     let row = nodes.add(Node::ApiRow(row, none))?;
     done(nodes, Node::Forget(row))
 }
 
-// The row that registers a function under a Perl name.
-fn new_xs(alloc: Global, nodes: &mut Nodes, full: &Bytes, function: u32) -> Result<u32, Refuse>
-    ensures { (scope : spec.Scope) → GivesStmt result nodes.old nodes.new scope (spec.row_done scope (NewXs full.now function)) }
+// The registration of a function under a Perl name.
+fn register(alloc: Global, nodes: &mut Nodes, full: &Bytes, function: u32) -> Result<u32, Refuse>
+    ensures { (scope : spec.Scope)
+        → GivesStmt result nodes.old nodes.new scope
+        (spec.done scope (Forget (Register full.now function))) }
 {
     let full = full.copy(alloc)?;
-    let none = nodes.add(Node::NoTrees)?;
     let text = nodes.add_text(full)?;
-    let row = nodes.add(Node::ApiRow(RowNode::NewXs(text, function), none))?;
+    let row = nodes.add(Node::Register(text, function))?;
     done(nodes, Node::Forget(row))
 }
 
@@ -56,7 +62,9 @@ fn new_xs(alloc: Global, nodes: &mut Nodes, full: &Bytes, function: u32) -> Resu
 fn conditional(nodes: &mut Nodes, test: u32, branch: u32) -> Result<u32, Refuse>
     requires test_in { test < length nodes.old.nodes.items }
     requires branch_in { branch < length nodes.old.nodes.items }
-    ensures { (scope : spec.Scope) → GivesStmt result nodes.old nodes.new scope (spec.done scope (If (tree_in nodes.old test) (tree_in nodes.old branch) (Block NoTrees))) }
+    ensures { (scope : spec.Scope)
+        → GivesStmt result nodes.old nodes.new scope
+        (spec.done scope (If (tree_in nodes.old test) (tree_in nodes.old branch) (Block NoTrees))) }
 {
     let none = nodes.add(Node::NoTrees)?;
     let nothing = nodes.add(Node::Block(none))?;
@@ -64,19 +72,22 @@ fn conditional(nodes: &mut Nodes, test: u32, branch: u32) -> Result<u32, Refuse>
 }
 
 fn no_stmts(nodes: &mut Nodes) -> Result<u32, Refuse>
-    ensures { (scope : spec.Scope) → GivesStmts result nodes.old nodes.new scope (spec.done scope NoTrees) }
+    ensures { (scope : spec.Scope)
+        → GivesStmts result nodes.old nodes.new scope (spec.done scope NoTrees) }
 {
-    let place = nodes.add(Node::NoTrees)?;
-    Ok(place)
+    let index = nodes.add(Node::NoTrees)?;
+    Ok(index)
 }
 
 fn more_stmts(nodes: &mut Nodes, first: u32, others: u32) -> Result<u32, Refuse>
     requires first_in { first < length nodes.old.nodes.items }
     requires others_in { others < length nodes.old.nodes.items }
-    ensures { (scope : spec.Scope) → GivesStmts result nodes.old nodes.new scope (spec.done scope (MoreTrees (tree_in nodes.old first) (trees_in nodes.old others))) }
+    ensures { (scope : spec.Scope)
+        → GivesStmts result nodes.old nodes.new scope
+        (spec.done scope (MoreTrees (tree_in nodes.old first) (trees_in nodes.old others))) }
 {
-    let place = nodes.add(Node::MoreTrees(first, others))?;
-    Ok(place)
+    let index = nodes.add(Node::MoreTrees(first, others))?;
+    Ok(index)
 }
 
 // ---- rules
@@ -89,12 +100,13 @@ fn declared(
     name: &Bytes,
     of_type: Option<ValueType>,
 ) -> Result<u32, Refuse>
-    ensures { GivesStmt result nodes.old nodes.new scope.new (spec.declared line scope.old name.now of_type) }
+    ensures { GivesStmt result nodes.old nodes.new scope.new
+        (spec.declared line scope.old name.now of_type) }
 {
     let Some(of_type) = of_type else {
         return Err(types_differ(alloc, line));
     };
-    if scope.is_taken(name.as_slice()) {
+    if scope.is_in_use(name.as_slice()) {
         let word = name.copy(alloc)?;
         return Err(declared_twice(line, word));
     }
@@ -119,10 +131,10 @@ fn item_name(item: &FileItem) -> &[u8]
     }
 }
 
-// Where the function of a name stands among a file's functions.
-#[tactic(auto, unfolding(crate::specs::Typing::place_of))]
-pub(crate) fn place_of(items: &[FileItem], name: &[u8]) -> Option<usize>
-    ensures { result ≡ spec.place_of (names_in items.now) name.now }
+// The index of the function of a name among a file's functions.
+#[tactic(auto, unfolding(crate::specs::Typing::index_of))]
+pub(crate) fn index_of(items: &[FileItem], name: &[u8]) -> Option<usize>
+    ensures { result ≡ spec.index_of (names_in items.now) name.now }
 {
     for (i, item) in items.iter().enumerate() {
         if is(item_name(item), name) {
@@ -139,18 +151,20 @@ fn registered_as(
     in_boot: bool,
     full: &Bytes,
     function: &Bytes,
-    place: Option<usize>,
+    index: Option<usize>,
 ) -> Result<u32, Refuse>
-    ensures { (scope : spec.Scope) → scope.in_boot ≡ in_boot → GivesStmt result nodes.old nodes.new scope (spec.registered_as line scope full.now function.now place) }
+    ensures { (scope : spec.Scope) → scope.in_boot ≡ in_boot
+        → GivesStmt result nodes.old nodes.new scope
+        (spec.registered_as line scope full.now function.now index) }
 {
-    let Some(place) = place else {
-        return Err(Refuse::Fault(worded(alloc, line, 802, function.as_slice())?));
+    let Some(index) = index else {
+        return Err(Refuse::Fault(worded(alloc, line, UNKNOWN_FUNCTION, function.as_slice())?));
     };
     if !in_boot {
         return Err(Refuse::Fault(not_allowed(alloc, line, b"newXS_deffile")?));
     }
-    let place = next_place(place)?;
-    new_xs(alloc, nodes, full, place)
+    let index = next_index(index)?;
+    register(alloc, nodes, full, index)
 }
 
 fn entry(alloc: Global, nodes: &mut Nodes, scope: &mut Scope, line: u32) -> Result<u32, Refuse>
@@ -160,7 +174,7 @@ fn entry(alloc: Global, nodes: &mut Nodes, scope: &mut Scope, line: u32) -> Resu
         return Err(Refuse::Fault(not_allowed(alloc, line, b"dXSARGS")?));
     }
     scope.enter();
-    bare_row(nodes, RowNode::Entry)
+    bare_row(nodes, Row::Entry)
 }
 
 #[tactic(auto, unfolding(crate::specs::Typing::perl))]
@@ -172,13 +186,14 @@ fn perl(
     line: u32,
     form: &PerlForm,
 ) -> Result<u32, Refuse>
-    ensures { GivesStmt result nodes.old nodes.new scope.new (spec.perl (names_in items.now) line scope.old form.now) }
+    ensures { GivesStmt result nodes.old nodes.new scope.new
+        (spec.perl (names_in items.now) line scope.old form.now) }
 {
     match form {
         PerlForm::DxsArgs => entry(alloc, nodes, scope, line),
-        PerlForm::XsReturnYes => bare_row(nodes, RowNode::XsReturnYes),
+        PerlForm::XsReturnYes => bare_row(nodes, Row::XsReturnYes),
         PerlForm::NewXs { full, function } => {
-            let place = place_of(items, function.as_slice());
+            let index = index_of(items, function.as_slice());
             registered_as(
                 alloc,
                 nodes,
@@ -186,7 +201,7 @@ fn perl(
                 scope.is_in_boot(),
                 full,
                 function,
-                place,
+                index,
             )
         }
     }
@@ -195,7 +210,7 @@ fn perl(
 // ---- any statement
 
 #[cycle(stmt)]
-#[tactic(auto, using(xs_csyn::proofs::Views::views), unfolding(crate::specs::Typing::stmt))]
+#[tactic(auto, using(xs_csyn::proofs::ViewsCompute::views), unfolding(crate::specs::Typing::stmt))]
 fn stmt(
     alloc: Global,
     nodes: &mut Nodes,
@@ -203,13 +218,14 @@ fn stmt(
     items: &[FileItem],
     s: &Stmt,
 ) -> Result<u32, Refuse>
-    ensures { GivesStmt result nodes.old nodes.new scope.new (spec.stmt (names_in items.now) scope.old (plain_stmt s.now)) }
+    ensures { GivesStmt result nodes.old nodes.new scope.new
+        (spec.stmt (names_in items.now) scope.old (stmt_tree s.now)) }
 {
     match s {
         Stmt::Block(_, body) => {
             let known = scope.locals().len();
             let inner = stmts(alloc, nodes, scope, items, body.as_slice())?;
-            scope.forget_behind(known);
+            scope.forget_after(known);
             done(nodes, Node::Block(inner))
         }
         Stmt::Declare(line, t, name) => declared(alloc, nodes, scope, *line, name, type_named(t)),
@@ -230,7 +246,7 @@ fn stmt(
 }
 
 #[cycle(stmt)]
-#[tactic(auto, using(xs_csyn::proofs::Views::views), unfolding(crate::specs::Typing::stmt))]
+#[tactic(auto, using(xs_csyn::proofs::ViewsCompute::views), unfolding(crate::specs::Typing::stmt))]
 pub(crate) fn stmts(
     alloc: Global,
     nodes: &mut Nodes,
@@ -238,7 +254,8 @@ pub(crate) fn stmts(
     items: &[FileItem],
     body: &[Stmt],
 ) -> Result<u32, Refuse>
-    ensures { GivesStmts result nodes.old nodes.new scope.new (spec.stmts (names_in items.now) scope.old (stmts_of (map plain_stmt body.now))) }
+    ensures { GivesStmts result nodes.old nodes.new scope.new
+        (spec.stmts (names_in items.now) scope.old (stmts_of (map stmt_tree body.now))) }
 {
     let Some((first, rest)) = body.split_first() else {
         return no_stmts(nodes);

@@ -1,6 +1,7 @@
-pub mod Places
-pub mod Views
-pub mod Sound
-pub mod SoundFiles
-pub mod Complete
-pub mod CompleteFiles
+pub mod PlaceViews
+pub mod ViewsCompute
+pub mod ExpressionsSound
+pub mod FilesSound
+pub mod ExpressionsComplete
+pub mod FilesComplete
+pub mod MoreTurns

@@ -1,7 +1,7 @@
 -- How deep trees are.
 use Rattle.std.specs.Prelude.{ℕ, ◌+◌, ◌≤◌, max, List, [], ◌∷◌}
-use Rattle.xs_csyn.specs.Tree.{ExprTree, Var, Num, Str, Call, Set, Two, Cast, ExprTrees, NoExprs, MoreExprs, PlaceTree, VarPlace, StPlace, StmtTree, Block, Declare, Effect, If, Perl, StmtTrees, NoStmts, MoreStmts, ItemTree, XsFunction}
-use Rattle.xs_csyn.specs.Stmts.{max_nesting}
+use Rattle.xs_csyn.specs.SyntaxTree.{ExprTree, Var, Num, Str, Call, Set, Two, Cast, ExprTrees, NoExprs, MoreExprs, PlaceTree, VarPlace, StPlace, StmtTree, Block, Declare, Effect, If, Perl, StmtTrees, NoStmts, MoreStmts, ItemTree, XsFunction}
+use Rattle.xs_csyn.specs.StatementReader.{max_nesting}
 
 -- how many nodes the longest way down has
 abbrev mutual
@@ -48,7 +48,9 @@ abbrev mutual
   tallest_of NoStmts = 0
   tallest_of (MoreStmts s all) = max (tallest s) (tallest_of all)
 
--- No statement and no expression of the functions is too deep. The body of a function is a level of its own.
+-- No statement and no expression of the functions is too deep. The body of a function is a level of
+-- its own.
 abbrev pub AreWithin : List ItemTree → Type 0
 AreWithin [] = Unit {0}
-AreWithin (XsFunction f ∷ all) = (depths f.body + 1 ≤ max_nesting) × (tallest_of f.body ≤ max_nesting) × AreWithin all
+AreWithin (XsFunction f ∷ all) = (depths f.body + 1 ≤ max_nesting)
+    × (tallest_of f.body ≤ max_nesting) × AreWithin all

@@ -1,8 +1,9 @@
-pub mod Tree
-pub mod View
-pub mod Input
-pub mod Exprs
-pub mod Stmts
-pub mod Files
-pub mod Grammar
+pub mod SyntaxTree
+pub mod TreeViews
+pub mod TokenInput
+pub mod ExpressionReader
+pub mod StatementReader
+pub mod FileReader
+pub mod GlueGrammar
 pub mod Heights
+pub mod Laws

@@ -2,9 +2,9 @@
 
 ghost use Rattle.std.specs.Option.{option_map};
 ghost use Rattle.std.specs.Prelude.{◌≡◌, ◌+◌, ◌^◌, ◌<◌, IfOk, map};
-ghost use Rattle.xs_csyn.specs.Exprs as spec;
-ghost use Rattle.xs_csyn.specs.Tree as t;
-ghost use Rattle.xs_csyn.specs.View.{found, found_all, plain, plain_place};
+ghost use Rattle.xs_csyn.specs.ExpressionReader as spec;
+ghost use Rattle.xs_csyn.specs.SyntaxTree as t;
+ghost use Rattle.xs_csyn.specs.TreeViews.{found, found_all, expr_tree, place_tree};
 
 use crate::node::{Node, Nodes};
 use crate::{BinaryOp, CType, Expr, Place};
@@ -12,15 +12,15 @@ use std::alloc::{AllocError, Global};
 use xs_base::Bytes;
 
 /// A node that has no others in it.
-#[tactic(auto, using(crate::proofs::Views::views))]
+#[tactic(auto, using(crate::proofs::ViewsCompute::views))]
 pub fn leaf(tree: Expr) -> Node
-    ensures { found result ≡ spec.leaf (plain tree) }
+    ensures { found result ≡ spec.leaf (expr_tree tree) }
 {
     Node { tree, height: 1 }
 }
 
 /// A node with its type in front.
-#[tactic(auto, using(crate::proofs::Views::views))]
+#[tactic(auto, using(crate::proofs::ViewsCompute::views))]
 pub fn cast_to(alloc: Global, line: u32, to: CType, n: Node) -> Result<Node, AllocError>
     requires { n.height + 1 < 2 ^ 32 }
     ensures { IfOk result (λ m. found m ≡ spec.above (t.Cast line to) (found n)) }
@@ -34,7 +34,7 @@ pub fn cast_to(alloc: Global, line: u32, to: CType, n: Node) -> Result<Node, All
 }
 
 /// Two operands with the operator between them.
-#[tactic(auto, using(crate::proofs::Views::views))]
+#[tactic(auto, using(crate::proofs::ViewsCompute::views))]
 pub fn joined(alloc: Global, line: u32, op: BinaryOp, a: Node, b: Node) -> Result<Node, AllocError>
     requires left { a.height + 1 < 2 ^ 32 }
     requires right { b.height + 1 < 2 ^ 32 }
@@ -46,7 +46,7 @@ pub fn joined(alloc: Global, line: u32, op: BinaryOp, a: Node, b: Node) -> Resul
 }
 
 /// A value for a place that has this height.
-#[tactic(auto, using(crate::proofs::Views::views))]
+#[tactic(auto, using(crate::proofs::ViewsCompute::views))]
 pub fn assigned(
     alloc: Global,
     line: u32,
@@ -56,7 +56,7 @@ pub fn assigned(
 ) -> Result<Node, AllocError>
     requires left { height + 1 < 2 ^ 32 }
     requires right { n.height + 1 < 2 ^ 32 }
-    ensures { IfOk result (λ m. found m ≡ spec.assigned line (plain_place place) height (found n)) }
+    ensures { IfOk result (λ m. found m ≡ spec.assigned line (place_tree place) height (found n)) }
 {
     let height = height.max(n.height) + 1;
     let tree = Expr::Assign(line, place, Box::new(alloc, n.tree)?);
@@ -64,7 +64,7 @@ pub fn assigned(
 }
 
 /// A call of a name with these arguments.
-#[tactic(auto, using(crate::proofs::Views::views))]
+#[tactic(auto, using(crate::proofs::ViewsCompute::views))]
 pub fn called(line: u32, name: Bytes, all: Nodes) -> Node
     requires { all.height + 1 < 2 ^ 32 }
     ensures { found result ≡ spec.called line name (found_all all) }
@@ -86,8 +86,8 @@ pub fn no_nodes(alloc: Global) -> Nodes
     }
 }
 
-/// The nodes with one more behind them.
-#[tactic(auto, using(crate::proofs::Views::views))]
+/// The nodes with one more after them.
+#[tactic(auto, using(crate::proofs::ViewsCompute::views))]
 pub fn with_node(all: Nodes, one: Node) -> Result<Nodes, AllocError>
     ensures { IfOk result (λ m. found_all m ≡ spec.with_node (found_all all) (found one)) }
 {
@@ -100,9 +100,10 @@ pub fn with_node(all: Nodes, one: Node) -> Result<Nodes, AllocError>
 }
 
 /// ST of its arguments as a place, if there is one argument.
-#[tactic(auto, using(crate::proofs::Views::views, crate::proofs::Places::one))]
+#[tactic(auto, using(crate::proofs::ViewsCompute::views, crate::proofs::PlaceViews::one))]
 fn list_place(alloc: Global, line: u32, mut args: Vec<Expr>) -> Result<Option<Place>, AllocError>
-    ensures { IfOk result (λ o. option_map plain_place o ≡ spec.list_place line (t.exprs_of (map plain args.items))) }
+    ensures { IfOk result (λ o. option_map place_tree o
+        ≡ spec.list_place line (t.exprs_of (map expr_tree args.items))) }
 {
     if args.len() != 1 {
         return Ok(None);
@@ -114,9 +115,9 @@ fn list_place(alloc: Global, line: u32, mut args: Vec<Expr>) -> Result<Option<Pl
 }
 
 /// The place that an expression is, if it is one: a name, or ST of one expression.
-#[tactic(auto, using(crate::proofs::Views::views))]
+#[tactic(auto, using(crate::proofs::ViewsCompute::views))]
 pub fn place_of(alloc: Global, tree: Expr) -> Result<Option<Place>, AllocError>
-    ensures { IfOk result (λ o. option_map plain_place o ≡ spec.place_of (plain tree)) }
+    ensures { IfOk result (λ o. option_map place_tree o ≡ spec.place_of (expr_tree tree)) }
 {
     match tree {
         Expr::Name(line, name) => Ok(Some(Place::Variable(line, name))),

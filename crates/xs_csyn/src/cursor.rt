@@ -1,16 +1,17 @@
 //! The tokens that are left.
 
-ghost use Rattle.std.specs.Prelude.{◌≡◌, ◌^◌, ◌<◌, ◌≤◌, Ok, length};
+ghost use Rattle.std.specs.Prelude.{◌≡◌, ◌^◌, ◌<◌, ◌≤◌, Ok, length, suc};
 ghost use Rattle.xs_base.specs.declared.fault.Refuse.TheVariants as refuse;
-ghost use Rattle.xs_csyn.specs.Exprs as exprs;
-ghost use Rattle.xs_csyn.specs.Input as spec;
-ghost use Rattle.xs_csyn.specs.Input.{Reads};
-ghost use Rattle.xs_csyn.specs.Stmts as stmts;
+ghost use Rattle.xs_csyn.specs.ExpressionReader as exprs;
+ghost use Rattle.xs_csyn.specs.TokenInput as spec;
+ghost use Rattle.xs_csyn.specs.TokenInput.{Reads};
+ghost use Rattle.xs_csyn.specs.StatementReader as stmts;
 
 use std::alloc::Global;
 use std::marker::Model;
+use xs_base::fault_codes::NO_READING_HERE;
 use xs_base::{Bytes, Fault, FileOf, Refuse};
-use xs_ctok::{Sort, Token, is_no_name, is_type_word};
+use xs_ctok::{TokKind, Token, is_no_name, is_type_word};
 
 #[derive(Drop)]
 pub struct Cursor<'a> {
@@ -21,7 +22,7 @@ pub struct Cursor<'a> {
 
 impl<'a> Model for Cursor<'a> {
     ghost use Rattle.std.specs.Prelude.{◌^◌, ◌<◌, length};
-    ghost use Rattle.xs_csyn.specs.Input.{Input};
+    ghost use Rattle.xs_csyn.specs.TokenInput.{Input};
 
     ghost Value = { Input };
 
@@ -33,33 +34,33 @@ impl<'a> Model for Cursor<'a> {
 fn is_sign(t: &Token, text: &[u8]) -> bool
     ensures { result ≡ spec.is_sign text.now t.now }
 {
-    t.sort == Sort::Sign && t.text.as_slice() == text
+    t.kind == TokKind::Sign && t.text.as_slice() == text
 }
 
 fn is_key(t: &Token, text: &[u8]) -> bool
     ensures { result ≡ spec.is_key text.now t.now }
 {
-    t.sort == Sort::Key && t.text.as_slice() == text
+    t.kind == TokKind::Key && t.text.as_slice() == text
 }
 
 fn is_quoted(t: &Token) -> bool
     ensures { result ≡ spec.is_quoted t.now }
 {
-    t.sort == Sort::Quoted
+    t.kind == TokKind::Quoted
 }
 
 fn is_type(t: &Token) -> bool
     ensures { result ≡ spec.is_type_word t.now }
 {
-    t.sort == Sort::Key && is_type_word(t.text.as_slice())
+    t.kind == TokKind::Key && is_type_word(t.text.as_slice())
 }
 
 fn is_name(t: &Token) -> bool
     ensures { result ≡ spec.is_name t.now }
 {
-    match t.sort {
-        Sort::Name => true,
-        Sort::Key => !is_no_name(t.text.as_slice()),
+    match t.kind {
+        TokKind::Name => true,
+        TokKind::Key => !is_no_name(t.text.as_slice()),
         _ => false,
     }
 }
@@ -100,27 +101,46 @@ impl<'a> Cursor<'a> {
         Cursor { rest, file, last }
     }
 
-    /// The number of tokens.
-    #[tactic(auto, unfolding(crate::specs::Input::left))]
+    /// A cursor of its own at the same token.
+    pub fn ahead(&self) -> Cursor<'a>
+        ensures { result ≡ self.now }
+    {
+        Cursor {
+            rest: self.rest,
+            file: self.file,
+            last: self.last,
+        }
+    }
+
+    /// The number of tokens that are left.
+    #[tactic(auto, unfolding(crate::specs::TokenInput::left))]
     pub fn left(&self) -> usize
         ensures { result ≡ spec.left self.now }
     {
         self.rest.len()
     }
 
-    /// The sort of the next token.
-    #[tactic(auto, unfolding(crate::specs::Input::sort_of))]
-    pub fn sort(&self) -> Option<Sort>
-        ensures { result ≡ spec.sort_of self.now }
+    /// Turns enough for a loop that consumes a token in each: one more than there are tokens.
+    #[tactic(auto, unfolding(crate::specs::TokenInput::left))]
+    pub fn turns(&self) -> usize
+        ensures { result ≡ suc (spec.left self.now) }
+    {
+        self.rest.len() + 1
+    }
+
+    /// The kind of the next token.
+    #[tactic(auto, unfolding(crate::specs::TokenInput::kind_of_token))]
+    pub fn kind(&self) -> Option<TokKind>
+        ensures { result ≡ spec.kind_of_token self.now }
     {
         match self.rest {
             [] => None,
-            [first, ..] => Some(first.sort),
+            [first, ..] => Some(first.kind),
         }
     }
 
     /// The line of the next token, or of the early end.
-    #[tactic(auto, unfolding(crate::specs::Input::line))]
+    #[tactic(auto, unfolding(crate::specs::TokenInput::line))]
     pub fn line(&self) -> u32
         ensures { result ≡ spec.line self.now }
     {
@@ -131,7 +151,7 @@ impl<'a> Cursor<'a> {
     }
 
     /// Whether this punctuator comes next.
-    #[tactic(auto, unfolding(crate::specs::Input::sees))]
+    #[tactic(auto, unfolding(crate::specs::TokenInput::sees))]
     pub fn sees(&self, text: &[u8]) -> bool
         ensures { result ≡ spec.sees text.now self.now }
     {
@@ -142,7 +162,7 @@ impl<'a> Cursor<'a> {
     }
 
     /// Whether this word of the grammar comes next.
-    #[tactic(auto, unfolding(crate::specs::Input::sees_key))]
+    #[tactic(auto, unfolding(crate::specs::TokenInput::sees_key))]
     pub fn sees_key(&self, text: &[u8]) -> bool
         ensures { result ≡ spec.sees_key text.now self.now }
     {
@@ -152,8 +172,8 @@ impl<'a> Cursor<'a> {
         }
     }
 
-    /// Whether a word by which a type is told comes next.
-    #[tactic(auto, unfolding(crate::specs::Input::sees_type))]
+    /// Whether a word of a type comes next.
+    #[tactic(auto, unfolding(crate::specs::TokenInput::sees_type))]
     pub fn sees_type(&self) -> bool
         ensures { result ≡ spec.sees_type self.now }
     {
@@ -164,7 +184,7 @@ impl<'a> Cursor<'a> {
     }
 
     /// Whether a word that may be a name comes next.
-    #[tactic(auto, unfolding(crate::specs::Input::sees_name))]
+    #[tactic(auto, unfolding(crate::specs::TokenInput::sees_name))]
     pub fn sees_name(&self) -> bool
         ensures { result ≡ spec.sees_name self.now }
     {
@@ -175,7 +195,7 @@ impl<'a> Cursor<'a> {
     }
 
     /// Whether a word of the XS interface that is a statement by itself comes next.
-    #[tactic(auto, unfolding(crate::specs::Stmts::sees_word_form))]
+    #[tactic(auto, unfolding(crate::specs::StatementReader::sees_word_form))]
     pub fn sees_word_form(&self) -> bool
         ensures { result ≡ stmts.sees_word_form self.now }
     {
@@ -186,7 +206,7 @@ impl<'a> Cursor<'a> {
     }
 
     /// Whether the registration of an XS function comes next.
-    #[tactic(auto, unfolding(crate::specs::Stmts::sees_new_xs))]
+    #[tactic(auto, unfolding(crate::specs::StatementReader::sees_new_xs))]
     pub fn sees_new_xs(&self) -> bool
         ensures { result ≡ stmts.sees_new_xs self.now }
     {
@@ -196,8 +216,8 @@ impl<'a> Cursor<'a> {
         }
     }
 
-    /// Takes the `*` that come next, and gives their number.
-    #[tactic(auto, unfolding(crate::specs::Exprs::stars))]
+    /// Consumes the `*` that come next, and gives their number.
+    #[tactic(auto, unfolding(crate::specs::ExpressionReader::stars))]
     pub fn stars(&mut self) -> u32
         ensures { exprs.stars self.old ≡ Ok (result, self.new) }
     {
@@ -207,15 +227,15 @@ impl<'a> Cursor<'a> {
     }
 
     /// The fault of this code at the next token.
-    #[tactic(auto, unfolding(crate::specs::Input::fault))]
+    #[tactic(auto, unfolding(crate::specs::TokenInput::fault))]
     pub fn refuse(&self, alloc: Global, code: u16) -> Refuse
         ensures { result ≡ refuse.Fault (spec.fault code self.now) }
     {
         Refuse::Fault(Fault::bare(alloc, self.file, self.line(), code))
     }
 
-    /// Takes the next token, if there is one, and gives its text.
-    #[tactic(auto, unfolding(crate::specs::Input::next, crate::specs::Input::spelling))]
+    /// Consumes the next token, if there is one, and gives its text.
+    #[tactic(auto, unfolding(crate::specs::TokenInput::next, crate::specs::TokenInput::spelling))]
     pub fn take(&mut self) -> &'a [u8]
         ensures text { result.now ≡ spec.spelling self.old }
         ensures next { self.new ≡ spec.next self.old }
@@ -229,8 +249,8 @@ impl<'a> Cursor<'a> {
         }
     }
 
-    /// Takes this punctuator, if it comes next.
-    #[tactic(auto, unfolding(crate::specs::Input::after))]
+    /// Consumes this punctuator, if it comes next.
+    #[tactic(auto, unfolding(crate::specs::TokenInput::after))]
     pub fn eat(&mut self, text: &[u8]) -> bool
         ensures found { result ≡ spec.sees text.now self.old }
         ensures after { self.new ≡ spec.after text.now self.old }
@@ -242,52 +262,52 @@ impl<'a> Cursor<'a> {
         found
     }
 
-    /// Takes the next token, which has to be one that is wanted, and gives its text.
-    fn taken(&mut self, alloc: Global, is_wanted: bool) -> Result<&'a [u8], Refuse>
-        ensures { Reads (λ b. b.now) (spec.taken is_wanted self.old) result self.new }
+    /// Consumes the next token, which has to be the one that is expected, and gives its text.
+    fn consumed(&mut self, alloc: Global, is_expected: bool) -> Result<&'a [u8], Refuse>
+        ensures { Reads (λ b. b.now) (spec.consumed is_expected self.old) result self.new }
     {
-        if is_wanted {
+        if is_expected {
             Ok(self.take())
         } else {
-            Err(self.refuse(alloc, 704))
+            Err(self.refuse(alloc, NO_READING_HERE))
         }
     }
 
-    /// Takes this punctuator, which has to come next.
-    #[tactic(auto, unfolding(crate::specs::Input::expect))]
+    /// Consumes this punctuator, which has to come next.
+    #[tactic(auto, unfolding(crate::specs::TokenInput::expect))]
     pub fn expect(&mut self, alloc: Global, text: &[u8]) -> Result<(), Refuse>
         ensures { Reads (λ u. u) (spec.expect text.now self.old) result self.new }
     {
-        let is_wanted = self.sees(text);
-        self.taken(alloc, is_wanted)?;
+        let is_expected = self.sees(text);
+        self.consumed(alloc, is_expected)?;
         Ok(())
     }
 
-    /// Takes this word of the grammar, which has to come next.
-    #[tactic(auto, unfolding(crate::specs::Input::expect_key))]
+    /// Consumes this word of the grammar, which has to come next.
+    #[tactic(auto, unfolding(crate::specs::TokenInput::expect_key))]
     pub fn expect_key(&mut self, alloc: Global, text: &[u8]) -> Result<(), Refuse>
         ensures { Reads (λ u. u) (spec.expect_key text.now self.old) result self.new }
     {
-        let is_wanted = self.sees_key(text);
-        self.taken(alloc, is_wanted)?;
+        let is_expected = self.sees_key(text);
+        self.consumed(alloc, is_expected)?;
         Ok(())
     }
 
-    /// Takes a word that may be a name, which has to come next.
-    #[tactic(auto, unfolding(crate::specs::Input::a_name))]
+    /// Consumes a word that may be a name, which has to come next.
+    #[tactic(auto, unfolding(crate::specs::TokenInput::a_name))]
     pub fn name(&mut self, alloc: Global) -> Result<Bytes, Refuse>
         ensures { Reads (λ b. b) (spec.a_name self.old) result self.new }
     {
-        let is_wanted = self.sees_name();
-        Ok(Bytes::from_slice(alloc, self.taken(alloc, is_wanted)?)?)
+        let is_expected = self.sees_name();
+        Ok(Bytes::from_slice(alloc, self.consumed(alloc, is_expected)?)?)
     }
 
-    /// Takes a word by which a type is told, which has to come next.
-    #[tactic(auto, unfolding(crate::specs::Input::a_type_word))]
+    /// Consumes a word of a type, which has to come next.
+    #[tactic(auto, unfolding(crate::specs::TokenInput::a_type_word))]
     pub fn type_word(&mut self, alloc: Global) -> Result<Bytes, Refuse>
         ensures { Reads (λ b. b) (spec.a_type_word self.old) result self.new }
     {
-        let is_wanted = self.sees_type();
-        Ok(Bytes::from_slice(alloc, self.taken(alloc, is_wanted)?)?)
+        let is_expected = self.sees_type();
+        Ok(Bytes::from_slice(alloc, self.consumed(alloc, is_expected)?)?)
     }
 }

@@ -1,20 +1,21 @@
 //! Expressions, by recursive descent.
 
 ghost use Rattle.std.specs.Prelude.{◌≡◌, ◌+◌, ◌<◌, ◌≤◌, IfOk};
-ghost use Rattle.xs_csyn.specs.Exprs as spec;
-ghost use Rattle.xs_csyn.specs.Input.{Reads};
-ghost use Rattle.xs_csyn.specs.View.{found, found_all};
+ghost use Rattle.xs_csyn.specs.ExpressionReader as spec;
+ghost use Rattle.xs_csyn.specs.TokenInput.{Reads};
+ghost use Rattle.xs_csyn.specs.TreeViews.{found, found_all};
 
 use crate::building::{assigned, called, cast_to, joined, leaf, no_nodes, place_of, with_node};
 use crate::cursor::Cursor;
 use crate::node::{Level, Node, Nodes};
 use crate::{BinaryOp, CType, Expr};
 use std::alloc::Global;
+use xs_base::fault_codes::{NESTED_TOO_DEEP, NO_READING_HERE};
 use xs_base::{Bytes, Refuse};
-use xs_ctok::Sort;
+use xs_ctok::TokKind;
 
 /// The operator that comes next, if it stands between operands of this level.
-#[tactic(auto, unfolding(crate::specs::Exprs::operator))]
+#[tactic(auto, unfolding(crate::specs::ExpressionReader::operator))]
 fn operator(cursor: &Cursor<'_>, operands: Level) -> Option<BinaryOp>
     ensures { result ≡ spec.operator operands cursor.now }
 {
@@ -37,8 +38,8 @@ fn operator(cursor: &Cursor<'_>, operands: Level) -> Option<BinaryOp>
     }
 }
 
-/// A type: a type word, and `*` behind it.
-#[tactic(auto, unfolding(crate::specs::Exprs::a_type))]
+/// A type: a type word, and `*` after it.
+#[tactic(auto, unfolding(crate::specs::ExpressionReader::a_type))]
 pub fn a_type(alloc: Global, cursor: &mut Cursor<'_>) -> Result<CType, Refuse>
     ensures { Reads (λ t. t) (spec.a_type cursor.old) result cursor.new }
 {
@@ -49,14 +50,14 @@ pub fn a_type(alloc: Global, cursor: &mut Cursor<'_>) -> Result<CType, Refuse>
 
 /// An expression of at most `room` levels.
 #[cycle(expr)]
-#[tactic(auto, using(crate::proofs::Views::views), unfolding(crate::specs::Exprs::expr))]
+#[tactic(auto, using(crate::proofs::ViewsCompute::views), unfolding(crate::specs::ExpressionReader::expr))]
 pub fn expr(alloc: Global, cursor: &mut Cursor<'_>, room: u32, level: Level) -> Result<Node, Refuse>
     requires { room ≤ 64 }
     ensures read { Reads found (spec.expr room level cursor.old) result cursor.new }
     ensures within { IfOk result (λ n. n.height ≤ room) }
 {
     if room == 0 {
-        return Err(cursor.refuse(alloc, 705));
+        return Err(cursor.refuse(alloc, NESTED_TOO_DEEP));
     }
     match level {
         Level::Whole => whole(alloc, cursor, room - 1),
@@ -67,7 +68,7 @@ pub fn expr(alloc: Global, cursor: &mut Cursor<'_>, room: u32, level: Level) -> 
 
 /// Operators and operands that follow the left operand. The line is that of the first token of all.
 #[cycle(expr)]
-#[tactic(auto, using(crate::proofs::Views::views), unfolding(crate::specs::Exprs::climb))]
+#[tactic(auto, using(crate::proofs::ViewsCompute::views), unfolding(crate::specs::ExpressionReader::climb))]
 fn climb(
     alloc: Global,
     cursor: &mut Cursor<'_>,
@@ -78,7 +79,8 @@ fn climb(
 ) -> Result<Node, Refuse>
     requires small { below < 64 }
     requires left { left.height ≤ below + 1 }
-    ensures read { Reads found (spec.climb (spec.expr below) below operands line below (found left) cursor.old) result cursor.new }
+    ensures read { Reads found (spec.climb (spec.expr below) below operands line below
+        (found left) cursor.old) result cursor.new }
     ensures within { IfOk result (λ n. n.height ≤ below + 1) }
 {
     for _turn in 0..below {
@@ -86,7 +88,7 @@ fn climb(
             return Ok(left);
         };
         if left.height > below {
-            return Err(cursor.refuse(alloc, 705));
+            return Err(cursor.refuse(alloc, NESTED_TOO_DEEP));
         }
         cursor.take();
         let right = expr(alloc, cursor, below, operands)?;
@@ -94,19 +96,19 @@ fn climb(
     }
     match operator(cursor, operands) {
         None => Ok(left),
-        Some(_) => Err(cursor.refuse(alloc, 705)),
+        Some(_) => Err(cursor.refuse(alloc, NESTED_TOO_DEEP)),
     }
 }
 
 #[cycle(expr)]
-#[tactic(auto, using(crate::proofs::Views::views), unfolding(crate::specs::Exprs::list, crate::specs::Exprs::list_from))]
+#[tactic(auto, using(crate::proofs::ViewsCompute::views), unfolding(crate::specs::ExpressionReader::list, crate::specs::ExpressionReader::list_from))]
 fn list(alloc: Global, cursor: &mut Cursor<'_>, below: u32) -> Result<Nodes, Refuse>
     requires { below < 64 }
     ensures read { Reads found_all (spec.list (spec.expr below) cursor.old) result cursor.new }
     ensures within { IfOk result (λ n. n.height ≤ below) }
 {
     let mut all = no_nodes(alloc);
-    for _turn in 0..cursor.left() {
+    for _turn in 0..cursor.turns() {
         let one = expr(alloc, cursor, below, Level::Whole)?;
         let more = cursor.eat(b",");
         all = with_node(all, one)?;
@@ -115,12 +117,12 @@ fn list(alloc: Global, cursor: &mut Cursor<'_>, below: u32) -> Result<Nodes, Ref
             return Ok(all);
         }
     }
-    Err(cursor.refuse(alloc, 704))
+    Err(cursor.refuse(alloc, NO_READING_HERE))
 }
 
-/// The arguments of a call, behind the opening parenthesis, up to behind the closing one.
+/// The arguments of a call, after the opening parenthesis, up to after the closing one.
 #[cycle(expr)]
-#[tactic(auto, using(crate::proofs::Views::views), unfolding(crate::specs::Exprs::arguments))]
+#[tactic(auto, using(crate::proofs::ViewsCompute::views), unfolding(crate::specs::ExpressionReader::arguments))]
 fn arguments(alloc: Global, cursor: &mut Cursor<'_>, below: u32) -> Result<Nodes, Refuse>
     requires { below < 64 }
     ensures read { Reads found_all (spec.arguments (spec.expr below) cursor.old) result cursor.new }
@@ -134,7 +136,7 @@ fn arguments(alloc: Global, cursor: &mut Cursor<'_>, below: u32) -> Result<Nodes
 
 /// A name, or a call of one.
 #[cycle(expr)]
-#[tactic(auto, using(crate::proofs::Views::views), unfolding(crate::specs::Exprs::named))]
+#[tactic(auto, using(crate::proofs::ViewsCompute::views), unfolding(crate::specs::ExpressionReader::named))]
 fn named(alloc: Global, cursor: &mut Cursor<'_>, below: u32, line: u32) -> Result<Node, Refuse>
     requires { below < 64 }
     ensures read { Reads found (spec.named (spec.expr below) line cursor.old) result cursor.new }
@@ -148,9 +150,9 @@ fn named(alloc: Global, cursor: &mut Cursor<'_>, below: u32, line: u32) -> Resul
     Ok(called(line, name, all))
 }
 
-/// A cast, behind the opening parenthesis.
+/// A cast, after the opening parenthesis.
 #[cycle(expr)]
-#[tactic(auto, using(crate::proofs::Views::views), unfolding(crate::specs::Exprs::cast))]
+#[tactic(auto, using(crate::proofs::ViewsCompute::views), unfolding(crate::specs::ExpressionReader::cast))]
 fn cast(alloc: Global, cursor: &mut Cursor<'_>, below: u32, line: u32) -> Result<Node, Refuse>
     requires { below < 64 }
     ensures read { Reads found (spec.cast (spec.expr below) line cursor.old) result cursor.new }
@@ -163,7 +165,7 @@ fn cast(alloc: Global, cursor: &mut Cursor<'_>, below: u32, line: u32) -> Result
 }
 
 #[cycle(expr)]
-#[tactic(auto, using(crate::proofs::Views::views), unfolding(crate::specs::Exprs::unary))]
+#[tactic(auto, using(crate::proofs::ViewsCompute::views), unfolding(crate::specs::ExpressionReader::unary))]
 fn unary(alloc: Global, cursor: &mut Cursor<'_>, below: u32) -> Result<Node, Refuse>
     requires { below < 64 }
     ensures read { Reads found (spec.unary (spec.expr below) cursor.old) result cursor.new }
@@ -173,12 +175,12 @@ fn unary(alloc: Global, cursor: &mut Cursor<'_>, below: u32) -> Result<Node, Ref
     if cursor.eat(b"(") {
         return cast(alloc, cursor, below, line);
     }
-    match cursor.sort() {
-        Some(Sort::Numeral(value)) => {
+    match cursor.kind() {
+        Some(TokKind::Numeral(value)) => {
             cursor.take();
             Ok(leaf(Expr::Int(line, value)))
         }
-        Some(Sort::Quoted) => {
+        Some(TokKind::Quoted) => {
             let text = Bytes::from_slice(alloc, cursor.take())?;
             Ok(leaf(Expr::Text(line, text)))
         }
@@ -186,14 +188,14 @@ fn unary(alloc: Global, cursor: &mut Cursor<'_>, below: u32) -> Result<Node, Ref
             if cursor.sees_name() {
                 named(alloc, cursor, below, line)
             } else {
-                Err(cursor.refuse(alloc, 704))
+                Err(cursor.refuse(alloc, NO_READING_HERE))
             }
         }
     }
 }
 
 #[cycle(expr)]
-#[tactic(auto, using(crate::proofs::Views::views), unfolding(crate::specs::Exprs::sum))]
+#[tactic(auto, using(crate::proofs::ViewsCompute::views), unfolding(crate::specs::ExpressionReader::sum))]
 fn sum(alloc: Global, cursor: &mut Cursor<'_>, below: u32) -> Result<Node, Refuse>
     requires { below < 64 }
     ensures read { Reads found (spec.sum (spec.expr below) below cursor.old) result cursor.new }
@@ -206,7 +208,7 @@ fn sum(alloc: Global, cursor: &mut Cursor<'_>, below: u32) -> Result<Node, Refus
 
 /// What follows the first operand, where the mark of an assignment comes next.
 #[cycle(expr)]
-#[tactic(auto, using(crate::proofs::Views::views), unfolding(crate::specs::Exprs::assignment))]
+#[tactic(auto, using(crate::proofs::ViewsCompute::views), unfolding(crate::specs::ExpressionReader::assignment))]
 fn assignment(
     alloc: Global,
     cursor: &mut Cursor<'_>,
@@ -216,15 +218,16 @@ fn assignment(
 ) -> Result<Node, Refuse>
     requires small { below < 64 }
     requires left { left.height ≤ below + 1 }
-    ensures read { Reads found (spec.assignment (spec.expr below) below line (found left) cursor.old) result cursor.new }
+    ensures read { Reads found
+        (spec.assignment (spec.expr below) below line (found left) cursor.old) result cursor.new }
     ensures within { IfOk result (λ n. n.height ≤ below + 1) }
 {
     let Node { tree, height } = left;
     let Some(place) = place_of(alloc, tree)? else {
-        return Err(cursor.refuse(alloc, 704));
+        return Err(cursor.refuse(alloc, NO_READING_HERE));
     };
     if height > below {
-        return Err(cursor.refuse(alloc, 705));
+        return Err(cursor.refuse(alloc, NESTED_TOO_DEEP));
     }
     cursor.take();
     let value = expr(alloc, cursor, below, Level::Whole)?;
@@ -232,7 +235,7 @@ fn assignment(
 }
 
 #[cycle(expr)]
-#[tactic(auto, using(crate::proofs::Views::views), unfolding(crate::specs::Exprs::whole, crate::specs::Exprs::comparison))]
+#[tactic(auto, using(crate::proofs::ViewsCompute::views), unfolding(crate::specs::ExpressionReader::whole, crate::specs::ExpressionReader::comparison))]
 fn whole(alloc: Global, cursor: &mut Cursor<'_>, below: u32) -> Result<Node, Refuse>
     requires { below < 64 }
     ensures read { Reads found (spec.whole (spec.expr below) below cursor.old) result cursor.new }

@@ -2,36 +2,36 @@
 
 ghost use Rattle.std.specs.Prelude.{◌≡◌, ◌-◌, ◌^◌, ◌<◌, IfOk, List, Ok, length};
 ghost use Rattle.xs_base.specs.Reading.{GivesBy};
-ghost use Rattle.xs_csyn.specs.Files as spec;
-ghost use Rattle.xs_csyn.specs.Grammar.{IsTextOf};
+ghost use Rattle.xs_csyn.specs.FileReader as spec;
+ghost use Rattle.xs_csyn.specs.GlueGrammar.{IsTextOf};
 ghost use Rattle.xs_csyn.specs.Heights.{AreWithin};
-ghost use Rattle.xs_csyn.specs.Input.{Reads};
-ghost use Rattle.xs_csyn.specs.Tree.{ItemTree};
-ghost use Rattle.xs_csyn.specs.View.{file_tree, function_tree, item_trees};
+ghost use Rattle.xs_csyn.specs.TokenInput.{Reads};
+ghost use Rattle.xs_csyn.specs.SyntaxTree.{ItemTree};
+ghost use Rattle.xs_csyn.specs.TreeViews.{file_tree, function_tree, item_trees};
 ghost use Rattle.xs_values.specs.declared.model.DataModel.TheVariants as model;
 
 use crate::cursor::Cursor;
 use crate::stmts::{MAX_NESTING, parts};
 use crate::{CFile, FileItem, XsFun};
 use std::alloc::Global;
-use xs_base::{Bytes, FileOf, Items, Line, Memory, Refuse, lines};
+use xs_base::fault_codes::NO_READING_HERE;
+use xs_base::{Bytes, FileOf, Items, Refuse, early_end};
 use xs_ctok::tokens;
 use xs_values::DataModel;
 
-/// The word that begins the body of each XS function has to come next (perlxs). It is not taken.
-#[tactic(auto, unfolding(crate::specs::Files::body_begins))]
+/// The statement `dXSARGS;`, which begins the body of each XS function (perlxs), has to come next.
+/// It is left there.
+#[tactic(auto, unfolding(crate::specs::FileReader::body_begins))]
 fn body_begins(alloc: Global, cursor: &Cursor<'_>) -> Result<(), Refuse>
     ensures { Reads (λ u. u) (spec.body_begins cursor.now) result cursor.now }
 {
-    if cursor.sees_key(b"dXSARGS") {
-        Ok(())
-    } else {
-        Err(cursor.refuse(alloc, 704))
-    }
+    let mut ahead = cursor.ahead();
+    ahead.expect_key(alloc, b"dXSARGS")?;
+    ahead.expect(alloc, b";")
 }
 
 /// An XS function.
-#[tactic(auto, unfolding(crate::specs::Files::function))]
+#[tactic(auto, unfolding(crate::specs::FileReader::function))]
 fn function(alloc: Global, cursor: &mut Cursor<'_>) -> Result<XsFun, Refuse>
     ensures { Reads function_tree (spec.function cursor.old) result cursor.new }
 {
@@ -47,7 +47,7 @@ fn function(alloc: Global, cursor: &mut Cursor<'_>) -> Result<XsFun, Refuse>
 }
 
 /// All that is left, as the items of a file.
-#[tactic(auto, unfolding(crate::specs::Files::items, crate::specs::Files::items_from))]
+#[tactic(auto, unfolding(crate::specs::FileReader::items, crate::specs::FileReader::items_from))]
 fn items(alloc: Global, cursor: &mut Cursor<'_>) -> Result<Items<FileItem>, Refuse>
     ensures { Reads item_trees (spec.items cursor.old) result cursor.new }
 {
@@ -62,39 +62,17 @@ fn items(alloc: Global, cursor: &mut Cursor<'_>) -> Result<Items<FileItem>, Refu
     if cursor.left() == 0 {
         Ok(all)
     } else {
-        Err(cursor.refuse(alloc, 704))
+        Err(cursor.refuse(alloc, NO_READING_HERE))
     }
 }
 
-fn last_of(all: &[Line]) -> u32
-    ensures { result ≡ spec.last_of 1 all.now }
-{
-    let mut last = 1;
-    for line in all {
-        if !line.text.is_empty() {
-            last = line.number;
-        }
-    }
-    last
-}
-
-/// The last line that is not empty, or 1.
-#[tactic(auto, unfolding(crate::specs::Files::last_line))]
-fn last_line(alloc: Global, src: &Bytes) -> Result<u32, Memory>
-    requires { length src.now < 2 ^ 32 - 1 }
-    ensures { IfOk result (λ n. n ≡ spec.last_line src.now) }
-{
-    let all = lines(alloc, src)?;
-    Ok(last_of(all.as_slice()))
-}
-
-#[tactic(auto, using(xs_ctok::proofs::Few::tokens_few), unfolding(crate::specs::Files::file_of, crate::specs::Files::tree_of))]
+#[tactic(auto, using(xs_ctok::proofs::Few::tokens_few), unfolding(crate::specs::FileReader::file_of, crate::specs::FileReader::tree_of))]
 fn read_exactly(alloc: Global, src: &Bytes, file: FileOf) -> Result<CFile, Refuse>
     requires { length src.now < 2 ^ 32 - 1 }
     ensures { GivesBy file_tree result (spec.file_of file src.now) }
 {
     let all = tokens(alloc, src.as_slice(), file)?;
-    let last = last_line(alloc, src)?;
+    let last = early_end(alloc, src)?;
     let mut cursor = Cursor::new(all.as_slice(), file, last);
     let items = items(alloc, &mut cursor)?;
     Ok(CFile {
@@ -103,17 +81,20 @@ fn read_exactly(alloc: Global, src: &Bytes, file: FileOf) -> Result<CFile, Refus
     })
 }
 
-/// Reads a C text by the grammar of the glue: XS functions with declarations of `int`, `IV` and `SV`, expressions of names,
-/// integers, texts, calls, casts, assignments, `+` and `!=`, blocks, `if`, and three words of the XS interface (perlxs).
+/// Reads a C text by the grammar of the glue: XS functions with declarations of `int`, `IV` and
+/// `SV`, expressions of names, integers, texts, calls, casts, assignments, `+` and `!=`, blocks,
+/// `if`, and three words of the XS interface (perlxs).
 ///
-/// A line that begins with `#`, blanks aside, is passed over where it is an `#include` or `#define PERL_NO_GET_CONTEXT`
-/// (perlguts).
+/// A line that begins with `#`, blanks aside, is passed over where it is an `#include` or `#define
+/// PERL_NO_GET_CONTEXT` (perlguts).
 ///
-/// The first fault is told where there is one. Faults of tokens go first, in their order: 701 for a byte that may not stand
-/// where it does, 702 for a text or comment that does not end, on the line where it begins, 703 for an integer of more than
-/// 64 bits, 706 for another `#define`. Else it is 704 at the first token with no reading, or 705 where statements or an
-/// expression stand more than 64 deep: at the first token of what stands too deep, or at the operator that would push its
-/// left operand too deep. At the early end of the text the line is the last that is not empty, or 1.
+/// Where there are faults, the answer is the first. Faults of tokens go first, in their order: 701
+/// for a byte that may not stand where it does, 702 for a text or comment that does not end, on the
+/// line where it begins, 703 for an integer of more than 64 bits, 706 for another `#define`. Else
+/// it is 704 at the first token with no reading, or 705 where statements or an expression stand
+/// more than 64 deep: at the first token of what stands too deep, or at the operator that would
+/// push its left operand too deep. At the early end of the text the line is the last that is not
+/// empty, or 1; a line of blanks is empty.
 pub fn read_file(alloc: Global, src: &Bytes, file: FileOf) -> Result<CFile, Refuse>
     requires { length src.now < 2 ^ 32 - 1 }
 
@@ -124,7 +105,8 @@ pub fn read_file(alloc: Global, src: &Bytes, file: FileOf) -> Result<CFile, Refu
     ensures sound { IfOk result (λ f. IsTextOf file src.now (file_tree f).items) }
 
     // What is a file by those rules, and nowhere too deep, is read as that file.
-    ensures complete { (all : List ItemTree) → IsTextOf file src.now all → AreWithin all → GivesBy file_tree result (Ok (record { model = model.Lp64; items = all })) }
+    ensures complete { (all : List ItemTree) → IsTextOf file src.now all → AreWithin all
+        → GivesBy file_tree result (Ok (record { model = model.Lp64; items = all })) }
 {
     read_exactly(alloc, src, file)
 }

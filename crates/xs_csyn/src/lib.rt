@@ -5,6 +5,7 @@ mod building;
 mod cursor;
 mod exprs;
 mod file;
+mod laws;
 mod node;
 mod stmts;
 #[cfg(test)]
@@ -12,5 +13,6 @@ mod tests;
 mod tree;
 
 pub use file::read_file;
+pub use laws::turns_law;
 pub use stmts::if_of;
 pub use tree::{BinaryOp, CFile, CType, Expr, FileItem, PerlForm, Place, Stmt, XsFun};

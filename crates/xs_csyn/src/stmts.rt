@@ -1,24 +1,26 @@
 //! Statements and declarations, by recursive descent.
 
 ghost use Rattle.std.specs.Prelude.{◌≡◌, IfOk, Ok};
-ghost use Rattle.xs_csyn.specs.Input.{Reads};
-ghost use Rattle.xs_csyn.specs.Stmts as spec;
-ghost use Rattle.xs_csyn.specs.Tree as t;
-ghost use Rattle.xs_csyn.specs.View.{plain, plain_stmt, plain_stmts};
+ghost use Rattle.xs_csyn.specs.TokenInput.{Reads};
+ghost use Rattle.xs_csyn.specs.StatementReader as spec;
+ghost use Rattle.xs_csyn.specs.SyntaxTree as t;
+ghost use Rattle.xs_csyn.specs.TreeViews.{expr_tree, stmt_tree, stmt_trees};
 
 use crate::cursor::Cursor;
 use crate::exprs::{a_type, expr};
 use crate::node::{Level, Node};
 use crate::{Expr, PerlForm, Stmt};
 use std::alloc::Global;
+use xs_base::fault_codes::{NESTED_TOO_DEEP, NO_READING_HERE};
 use xs_base::{Bytes, Memory, Refuse, with_more};
 
-/// How deep statements may stand in each other, and how many nodes the longest way down an expression may have.
+/// How deep statements may stand in each other, and how many nodes the longest way down an
+/// expression may have.
 pub const MAX_NESTING: u32 = 64;
 
-#[tactic(auto, unfolding(crate::specs::Stmts::an_expr))]
+#[tactic(auto, unfolding(crate::specs::StatementReader::an_expr))]
 fn an_expr(alloc: Global, cursor: &mut Cursor<'_>) -> Result<Expr, Refuse>
-    ensures { Reads plain (spec.an_expr cursor.old) result cursor.new }
+    ensures { Reads expr_tree (spec.an_expr cursor.old) result cursor.new }
 {
     let Node { tree, height: _ } = expr(alloc, cursor, MAX_NESTING, Level::Whole)?;
     Ok(tree)
@@ -35,9 +37,9 @@ fn form_of(word: &[u8]) -> PerlForm
 }
 
 /// A word of the XS interface that is a statement by itself.
-#[tactic(auto, using(crate::proofs::Views::views), unfolding(crate::specs::Stmts::word_form))]
+#[tactic(auto, using(crate::proofs::ViewsCompute::views), unfolding(crate::specs::StatementReader::word_form))]
 fn word_form(cursor: &mut Cursor<'_>) -> Stmt
-    ensures { spec.word_form cursor.old ≡ Ok (plain_stmt result, cursor.new) }
+    ensures { spec.word_form cursor.old ≡ Ok (stmt_tree result, cursor.new) }
 {
     let line = cursor.line();
     let form = form_of(cursor.take());
@@ -46,9 +48,9 @@ fn word_form(cursor: &mut Cursor<'_>) -> Stmt
 }
 
 /// The registration of an XS function.
-#[tactic(auto, using(crate::proofs::Views::views), unfolding(crate::specs::Stmts::new_xs))]
+#[tactic(auto, using(crate::proofs::ViewsCompute::views), unfolding(crate::specs::StatementReader::new_xs))]
 fn new_xs(alloc: Global, cursor: &mut Cursor<'_>) -> Result<Stmt, Refuse>
-    ensures { Reads plain_stmt (spec.new_xs cursor.old) result cursor.new }
+    ensures { Reads stmt_tree (spec.new_xs cursor.old) result cursor.new }
 {
     let line = cursor.line();
     cursor.take();
@@ -62,9 +64,9 @@ fn new_xs(alloc: Global, cursor: &mut Cursor<'_>) -> Result<Stmt, Refuse>
 }
 
 /// An expression for its effect.
-#[tactic(auto, using(crate::proofs::Views::views), unfolding(crate::specs::Stmts::effect))]
+#[tactic(auto, using(crate::proofs::ViewsCompute::views), unfolding(crate::specs::StatementReader::effect))]
 fn effect(alloc: Global, cursor: &mut Cursor<'_>) -> Result<Stmt, Refuse>
-    ensures { Reads plain_stmt (spec.effect cursor.old) result cursor.new }
+    ensures { Reads stmt_tree (spec.effect cursor.old) result cursor.new }
 {
     let line = cursor.line();
     let a = an_expr(alloc, cursor)?;
@@ -73,9 +75,9 @@ fn effect(alloc: Global, cursor: &mut Cursor<'_>) -> Result<Stmt, Refuse>
 }
 
 /// A statement in which no other stands.
-#[tactic(auto, using(crate::proofs::Views::views), unfolding(crate::specs::Stmts::simple))]
+#[tactic(auto, using(crate::proofs::ViewsCompute::views), unfolding(crate::specs::StatementReader::simple))]
 fn simple(alloc: Global, cursor: &mut Cursor<'_>) -> Result<Stmt, Refuse>
-    ensures { Reads plain_stmt (spec.simple cursor.old) result cursor.new }
+    ensures { Reads stmt_tree (spec.simple cursor.old) result cursor.new }
 {
     if cursor.sees_word_form() {
         Ok(word_form(cursor))
@@ -86,9 +88,9 @@ fn simple(alloc: Global, cursor: &mut Cursor<'_>) -> Result<Stmt, Refuse>
     }
 }
 
-#[tactic(auto, using(crate::proofs::Views::views), unfolding(crate::specs::Stmts::declaration))]
+#[tactic(auto, using(crate::proofs::ViewsCompute::views), unfolding(crate::specs::StatementReader::declaration))]
 fn declaration(alloc: Global, cursor: &mut Cursor<'_>) -> Result<Stmt, Refuse>
-    ensures { Reads plain_stmt (spec.declaration cursor.old) result cursor.new }
+    ensures { Reads stmt_tree (spec.declaration cursor.old) result cursor.new }
 {
     let line = cursor.line();
     let of_type = a_type(alloc, cursor)?;
@@ -98,18 +100,18 @@ fn declaration(alloc: Global, cursor: &mut Cursor<'_>) -> Result<Stmt, Refuse>
 }
 
 /// `if (EXPR) STATEMENT` as a statement.
-#[tactic(auto, using(crate::proofs::Views::views))]
+#[tactic(auto, using(crate::proofs::ViewsCompute::views))]
 pub fn if_of(alloc: Global, line: u32, test: Expr, then_do: Stmt) -> Result<Stmt, Memory>
-    ensures { IfOk result (λ s. plain_stmt s ≡ t.If line (plain test) (plain_stmt then_do)) }
+    ensures { IfOk result (λ s. stmt_tree s ≡ t.If line (expr_tree test) (stmt_tree then_do)) }
 {
     Ok(Stmt::If(line, test, Box::new(alloc, then_do)?))
 }
 
 /// What stands directly in a block.
 #[cycle(stmt)]
-#[tactic(auto, using(crate::proofs::Views::views), unfolding(crate::specs::Stmts::part))]
+#[tactic(auto, using(crate::proofs::ViewsCompute::views), unfolding(crate::specs::StatementReader::part))]
 fn part(alloc: Global, cursor: &mut Cursor<'_>, below: u32) -> Result<Stmt, Refuse>
-    ensures { Reads plain_stmt (spec.part (spec.stmt below) cursor.old) result cursor.new }
+    ensures { Reads stmt_tree (spec.part (spec.stmt below) cursor.old) result cursor.new }
 {
     if cursor.sees_type() {
         declaration(alloc, cursor)
@@ -118,27 +120,27 @@ fn part(alloc: Global, cursor: &mut Cursor<'_>, below: u32) -> Result<Stmt, Refu
     }
 }
 
-/// What stands in a block, behind the opening brace, up to behind the closing one.
+/// What stands in a block, after the opening brace, up to after the closing one.
 #[cycle(stmt)]
-#[tactic(auto, using(crate::proofs::Views::views), unfolding(crate::specs::Stmts::parts, crate::specs::Stmts::parts_from))]
+#[tactic(auto, using(crate::proofs::ViewsCompute::views), unfolding(crate::specs::StatementReader::parts, crate::specs::StatementReader::parts_from))]
 pub fn parts(alloc: Global, cursor: &mut Cursor<'_>, below: u32) -> Result<Vec<Stmt>, Refuse>
-    ensures { Reads plain_stmts (spec.parts (spec.stmt below) cursor.old) result cursor.new }
+    ensures { Reads stmt_trees (spec.parts (spec.stmt below) cursor.old) result cursor.new }
 {
     let mut all = Vec::new(alloc);
-    for _turn in 0..cursor.left() {
+    for _turn in 0..cursor.turns() {
         if cursor.eat(b"}") {
             return Ok(all);
         }
         let one = part(alloc, cursor, below)?;
         all = with_more(all, one)?;
     }
-    Err(cursor.refuse(alloc, 704))
+    Err(cursor.refuse(alloc, NO_READING_HERE))
 }
 
 #[cycle(stmt)]
-#[tactic(auto, using(crate::proofs::Views::views), unfolding(crate::specs::Stmts::block))]
+#[tactic(auto, using(crate::proofs::ViewsCompute::views), unfolding(crate::specs::StatementReader::block))]
 fn block(alloc: Global, cursor: &mut Cursor<'_>, below: u32) -> Result<Stmt, Refuse>
-    ensures { Reads plain_stmt (spec.block (spec.stmt below) cursor.old) result cursor.new }
+    ensures { Reads stmt_tree (spec.block (spec.stmt below) cursor.old) result cursor.new }
 {
     let line = cursor.line();
     cursor.take();
@@ -148,9 +150,9 @@ fn block(alloc: Global, cursor: &mut Cursor<'_>, below: u32) -> Result<Stmt, Ref
 
 /// An `if` without `else`.
 #[cycle(stmt)]
-#[tactic(auto, using(crate::proofs::Views::views), unfolding(crate::specs::Stmts::condition))]
+#[tactic(auto, using(crate::proofs::ViewsCompute::views), unfolding(crate::specs::StatementReader::condition))]
 fn condition(alloc: Global, cursor: &mut Cursor<'_>, below: u32) -> Result<Stmt, Refuse>
-    ensures { Reads plain_stmt (spec.condition (spec.stmt below) cursor.old) result cursor.new }
+    ensures { Reads stmt_tree (spec.condition (spec.stmt below) cursor.old) result cursor.new }
 {
     let line = cursor.line();
     cursor.take();
@@ -163,15 +165,15 @@ fn condition(alloc: Global, cursor: &mut Cursor<'_>, below: u32) -> Result<Stmt,
 
 /// A statement of at most `room` levels.
 #[cycle(stmt)]
-#[tactic(auto, using(crate::proofs::Views::views), unfolding(crate::specs::Stmts::stmt, crate::specs::Stmts::opens))]
+#[tactic(auto, using(crate::proofs::ViewsCompute::views), unfolding(crate::specs::StatementReader::stmt, crate::specs::StatementReader::opens))]
 fn stmt(alloc: Global, cursor: &mut Cursor<'_>, room: u32) -> Result<Stmt, Refuse>
-    ensures { Reads plain_stmt (spec.stmt room cursor.old) result cursor.new }
+    ensures { Reads stmt_tree (spec.stmt room cursor.old) result cursor.new }
 {
     let is_block = cursor.sees(b"{");
     let is_condition = cursor.sees_key(b"if");
     if room == 0 {
         if is_block || is_condition {
-            return Err(cursor.refuse(alloc, 705));
+            return Err(cursor.refuse(alloc, NESTED_TOO_DEEP));
         }
         return simple(alloc, cursor);
     }

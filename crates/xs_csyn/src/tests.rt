@@ -30,11 +30,12 @@ fn add(src: &mut Bytes, text: &str, times: u8) -> Result<(), Memory> {
 
 #[test]
 fn texts(rt: HostRuntime) -> Result<(), Fail> {
-    let rows: [(&str, u16, u32); 8] = [
+    let rows: [(&str, u16, u32); 12] = [
         (GLUE, 0, 0),
         ("", 0, 0),
         ("\n\n", 0, 0),
         ("XS(XS_x)\n{\n\n", 704, 2),
+        ("XS(XS_x)\n{\n \t\n", 704, 2),
         ("XS(XS_x)\n{\n int a; dXSARGS; }", 704, 3),
         ("XS(int)\n{ dXSARGS; }", 704, 1),
         (
@@ -43,6 +44,13 @@ fn texts(rt: HostRuntime) -> Result<(), Fail> {
             0,
         ),
         ("XS(XS_x)\n#define N 1\n", 706, 2),
+        ("XS(XS_x) {\ndXSARGS\n+1;\n}", 704, 3),
+        ("XS(XS_x) {\ndXSARGS\n", 704, 2),
+        (
+            "#define PERL_NO_GET_CONTEXT /* a */ // b\nXS(XS_x) { dXSARGS; }",
+            0,
+            0,
+        ),
     ];
     for (text, code, line) in rows {
         let src = Bytes::from_slice(rt.alloc(), text.as_bytes())?;
@@ -54,7 +62,7 @@ fn texts(rt: HostRuntime) -> Result<(), Fail> {
 /// Bodies of functions: a text, one that is repeated, and another.
 #[test]
 fn bodies(rt: HostRuntime) -> Result<(), Fail> {
-    let rows: [(&str, &str, u8, &str, u16, u32); 29] = [
+    let rows: [(&str, &str, u8, &str, u16, u32); 33] = [
         ("", "", 0, "}\r\n", 0, 0),
         ("", "", 0, "\r}", 701, 4),
         ("", "", 0, "a = 1;\n@ }", 701, 5),
@@ -88,6 +96,10 @@ fn bodies(rt: HostRuntime) -> Result<(), Fail> {
         ("a", " + a", 63, "; }", 0, 0),
         ("a", " + a", 63, "\n+ a; }", 705, 5),
         ("", "f(", 64, "\na", 705, 5),
+        ("", "f(", 64, "", 705, 4),
+        ("", "f(", 63, "", 704, 4),
+        ("", "{", 63, "", 704, 4),
+        ("", "", 0, "a = 18446744073709551616x; }", 703, 4),
         ("", "(int)", 63, "a; }", 0, 0),
         ("", "a = ", 63, "b; }", 0, 0),
         ("", "a = ", 63, "\na = b; }", 705, 5),

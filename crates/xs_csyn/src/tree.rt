@@ -12,7 +12,7 @@ pub enum BinaryOp {
     NotEqual,
 }
 
-/// A type as it is spelt: a type word, and the number of `*` behind it.
+/// A type as it is spelt: a type word, and the number of `*` after it.
 #[derive(Debug, Drop)]
 pub struct CType {
     pub name: Bytes,
@@ -56,7 +56,8 @@ pub enum PerlForm {
     DxsArgs,
     /// `XSRETURN_YES;`
     XsReturnYes,
-    /// `newXS_deffile("FULL", FUNCTION);`, which registers the XS function of a C name under a full Perl name.
+    /// `newXS_deffile("FULL", FUNCTION);`, which registers the XS function of a C name under a full
+    /// Perl name.
     NewXs { full: Bytes, function: Bytes },
 }
 
@@ -89,7 +90,7 @@ pub enum FileItem {
     XsFun(XsFun),
 }
 
-/// A file, and the data model that its types are taken by.
+/// A file, and the data model that says how wide its types are.
 #[derive(Debug, Drop)]
 pub struct CFile {
     pub model: DataModel,

@@ -1,14 +1,15 @@
 -- A text has no more tokens than bytes.
 use Rattle.std.proofs.Common.{◌≡◌, ℕ, ◌+◌, ◌≤◌, Bool, true, false, List, [], ◌∷◌, ◌++◌, length, Ok, arith, length-append}
 use Rattle.std.specs.Prelude.{Option, Some, None, if◌then◌else◌, ◌==◌, ◌&&◌}
+use Rattle.xs_base.specs.declared.fault_codes.TheConstants.{OPEN_COMMENT_OR_TEXT, STRAY_BYTE}
 use Rattle.xs_base.proofs.Collecting.{length-collect}
-use Rattle.xs_base.specs.declared.place.FileOf.{FileOf}
+use Rattle.xs_base.specs.declared.source.FileOf.{FileOf}
 use Rattle.xs_ctok.specs.declared.state.Mode.{Mode}
 use Rattle.xs_ctok.specs.declared.state.Mode.TheVariants as mode
 use Rattle.xs_ctok.specs.declared.state.State.{State}
 use Rattle.xs_ctok.specs.declared.token.Token.{Token}
 use Rattle.xs_base.specs.Scanning.{is_blank, is_word_byte}
-use Rattle.xs_ctok.specs.Lexemes.{Lexeme, Word, Text, Sign, Bad, Moved, is_double, begin, begun, moved, behind, in_comment, freshly, faulted, directive_fault, step, step_at, last, last_at, run, start, lexemes_of}
+use Rattle.xs_ctok.specs.Lexemes.{Lexeme, Word, Text, Sign, Bad, Moved, is_double, begin, begun, moved, after, in_comment, freshly, faulted, directive_fault, step, step_at, last, last_at, run, start, lexemes_of}
 use Rattle.xs_ctok.specs.Tokens.{token_of, tokens_of}
 
 -- how many lexemes a state may still give
@@ -31,9 +32,9 @@ begun_few : (line : ℕ) (o : Option State) → total (begun line o) ≤ 1
 begun_few line (Some s) = omega (arith, at_most_one s.mode)
 begun_few line None = omega arith
 
-behind_few : (l : Lexeme) (line : ℕ) (o : Option State) → total (behind (l ∷ []) (begun line o)) ≤ 2
-behind_few l line (Some s) = omega (arith, at_most_one s.mode)
-behind_few l line None = omega arith
+after_few : (l : Lexeme) (line : ℕ) (o : Option State) → total (after (l ∷ []) (begun line o)) ≤ 2
+after_few l line (Some s) = omega (arith, at_most_one s.mode)
+after_few l line None = omega arith
 
 choice : (n : ℕ) (t : Bool) (a b : Moved) → total a ≤ n → total b ≤ n → total (if t then a else b) ≤ n
 choice n true a b ha hb = ha
@@ -48,7 +49,7 @@ faulted_few : (line : ℕ) (o : Option ℕ) → length (faulted line o) ≤ 1
 faulted_few line None = omega arith
 faulted_few line (Some code) = omega arith
 
-ended_few : (line next : ℕ) (o : Option ℕ) → total (behind (faulted line o) (moved next mode.Fresh)) ≤ 2
+ended_few : (line next : ℕ) (o : Option ℕ) → total (after (faulted line o) (moved next mode.Fresh)) ≤ 2
 ended_few line next None = omega arith
 ended_few line next (Some code) = omega arith
 
@@ -60,20 +61,23 @@ fresh_few line b =
 step_few : (m : Mode) (line b : ℕ) → total (step_at m line b) ≤ pending_at m + 1
 step_few mode.Fresh line b = fresh_few line b
 step_few (mode.Directive bytes) line b =
-    choice 2 (b == 10) (behind (faulted line (directive_fault true bytes)) (moved (line + 1) mode.Fresh)) (moved line (mode.Directive (bytes ++ b ∷ [])))
+    choice 2 (b == 10) (after (faulted line (directive_fault true bytes)) (moved (line + 1) mode.Fresh)) (moved line (mode.Directive (bytes ++ b ∷ [])))
     (ended_few line (line + 1) (directive_fault true bytes)) (omega arith)
 step_few mode.Between line b = begun_few line (begin line b)
 step_few (mode.Word w) line b =
-    choice 2 (is_word_byte b) (moved line (mode.Word (w ++ b ∷ []))) (behind (Word line w ∷ []) (begun line (begin line b))) (omega arith) (behind_few (Word line w) line (begin line b))
+    choice 2 (is_word_byte b) (moved line (mode.Word (w ++ b ∷ []))) (after (Word line w ∷ []) (begun line (begin line b))) (omega arith)
+    (after_few (Word line w) line (begin line b))
 step_few (mode.Text t) line b =
-    choice 2 (b == 34) (behind (Text line t ∷ []) (moved line mode.Between)) _ (omega arith)
-    (choice 2 (b == 10) (behind (Bad 702 line ∷ []) (moved (line + 1) mode.Between)) _ (omega arith)
-    (choice 2 (b == 92) (behind (Bad 701 line ∷ []) (moved line mode.Between)) (moved line (mode.Text (t ++ b ∷ []))) (omega arith) (omega arith)))
+    choice 2 (b == 34) (after (Text line t ∷ []) (moved line mode.Between)) _ (omega arith)
+    (choice 2 (b == 10) (after (Bad OPEN_COMMENT_OR_TEXT line ∷ []) (moved (line + 1) mode.Between)) _ (omega arith)
+    (choice 2 (b == 92) (after (Bad STRAY_BYTE line ∷ []) (moved line mode.Between)) (moved line (mode.Text (t ++ b ∷ []))) (omega arith) (omega arith)))
 step_few (mode.Mark a) line b =
     choice 2 (a == 47 && b == 42) (moved line (mode.Comment line)) _ (omega arith)
-    (choice 2 (is_double a b) (behind (Sign line (a ∷ b ∷ []) ∷ []) (moved line mode.Between)) (behind (Sign line (a ∷ []) ∷ []) (begun line (begin line b))) (omega arith) (behind_few (Sign line (a ∷ [])) line (begin line b)))
+    (choice 2 (is_double a b) (after (Sign line (a ∷ b ∷ []) ∷ []) (moved line mode.Between)) (after (Sign line (a ∷ []) ∷ []) (begun line (begin line b)))
+    (omega arith) (after_few (Sign line (a ∷ [])) line (begin line b)))
 step_few mode.Return line b =
-    choice 2 (b == 10) (moved (line + 1) mode.Fresh) (behind (Bad 701 line ∷ []) (begun line (begin line b))) (omega arith) (behind_few (Bad 701 line) line (begin line b))
+    choice 2 (b == 10) (moved (line + 1) mode.Fresh) (after (Bad STRAY_BYTE line ∷ []) (begun line (begin line b))) (omega arith)
+    (after_few (Bad STRAY_BYTE line) line (begin line b))
 step_few (mode.Comment o) line b = comment_few 2 line o b (omega arith)
 step_few (mode.Star o) line b = choice 2 (b == 47) (moved line mode.Between) (in_comment line o b) (omega arith) (comment_few 2 line o b (omega arith))
 

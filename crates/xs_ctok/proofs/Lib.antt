@@ -1,5 +1,6 @@
 pub mod Few
 pub mod LexemeSteps
-pub mod Values
+pub mod WordKinds
 pub mod Passed
-pub mod Running
+pub mod LexemeRuns
+pub mod Comments

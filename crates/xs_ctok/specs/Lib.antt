@@ -1,4 +1,5 @@
 pub mod Lexemes
 pub mod Pieces
-pub mod Words
+pub mod CWords
 pub mod Tokens
+pub mod Laws

@@ -1,11 +1,12 @@
--- A text in pieces: what is written as it stands, names, parts of a text in quotes, blanks, and whole lines that are passed over.
+-- A text in pieces: what is written as it stands, names, parts of a text in quotes, blanks, and
+-- whole lines that are passed over.
 use Rattle.std.specs.Prelude.{◌≡◌, ℕ, ◌+◌, Bool, true, not, ◌==◌, ◌||◌, List, [], ◌∷◌, ◌++◌}
 use Rattle.std.specs.List.{list_all}
 use Rattle.xs_ctok.specs.declared.state.Mode.{Mode}
 use Rattle.xs_ctok.specs.declared.state.Mode.TheVariants as mode
 use Rattle.xs_ctok.specs.declared.state.State.{State}
 use Rattle.xs_base.specs.Scanning.{is_blank, is_word_byte}
-use Rattle.xs_ctok.specs.Lexemes.{Sign, Moved, is_passed_line, moved, behind, at_line, run}
+use Rattle.xs_ctok.specs.Lexemes.{Sign, Moved, is_passed_line, moved, after, at_line, run}
 
 pub data Piece : Type 0 where
   Plain : List ℕ → Piece
@@ -59,7 +60,7 @@ named_at mode.Fresh line name = moved line (mode.Word name)
 named_at mode.Between line name = moved line (mode.Word name)
 named_at (mode.Word word) line name = moved line (mode.Word (word ++ name))
 named_at (mode.Text text) line name = moved line (mode.Text (text ++ name))
-named_at (mode.Mark a) line name = behind (Sign line (a ∷ []) ∷ []) (moved line (mode.Word name))
+named_at (mode.Mark a) line name = after (Sign line (a ∷ []) ∷ []) (moved line (mode.Word name))
 named_at m line name = run (at_line line m) name
 
 -- what a part of a text does
@@ -93,8 +94,9 @@ lined s text = lined_at s.mode s.line text
 -- the moves over a text in pieces, in which no name is looked into
 abbrev pub run_pieces : State → List Piece → Moved
 run_pieces s [] = record { state = s; lexemes = [] }
-run_pieces s (Plain bytes ∷ ps) = behind (run s bytes).lexemes (run_pieces (run s bytes).state ps)
-run_pieces s (Name name ∷ ps) = behind (named s name).lexemes (run_pieces (named s name).state ps)
-run_pieces s (Bare text ∷ ps) = behind (bared s text).lexemes (run_pieces (bared s text).state ps)
-run_pieces s (Blank blanks ∷ ps) = behind (blanked s blanks).lexemes (run_pieces (blanked s blanks).state ps)
-run_pieces s (Line text ∷ ps) = behind (lined s text).lexemes (run_pieces (lined s text).state ps)
+run_pieces s (Plain bytes ∷ ps) = after (run s bytes).lexemes (run_pieces (run s bytes).state ps)
+run_pieces s (Name name ∷ ps) = after (named s name).lexemes (run_pieces (named s name).state ps)
+run_pieces s (Bare text ∷ ps) = after (bared s text).lexemes (run_pieces (bared s text).state ps)
+run_pieces s (Blank blanks ∷ ps) =
+    after (blanked s blanks).lexemes (run_pieces (blanked s blanks).state ps)
+run_pieces s (Line text ∷ ps) = after (lined s text).lexemes (run_pieces (lined s text).state ps)

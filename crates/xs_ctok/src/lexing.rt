@@ -5,54 +5,46 @@ ghost use Rattle.xs_base.specs.Reading.{Gives, fault_in};
 ghost use Rattle.xs_ctok.specs.Lexemes as spec;
 ghost use Rattle.xs_ctok.specs.Tokens as tokens;
 ghost use Rattle.xs_ctok.specs.Tokens.{Adds, Begins, Moves};
-ghost use Rattle.xs_ctok.specs.Words as words;
+ghost use Rattle.xs_ctok.specs.CWords as words;
 ghost use Rattle.xs_ctok.specs.declared.state.Mode.TheVariants as mode;
-ghost use Rattle.xs_ctok.specs.declared.token.Sort.TheVariants as sort;
+ghost use Rattle.xs_ctok.specs.declared.token.TokKind.TheVariants as kind;
 ghost use Rattle.xs_ctok.specs.declared.token.Token.{Token};
 ghost use Rattle.xs_base.specs.declared.fault.Refuse.TheVariants as refuse;
 
 use crate::directives::directive_fault;
 use crate::state::{Mode, State};
-use crate::token::{Sort, Token};
-use crate::words::sort_word;
+use crate::token::{TokKind, Token};
+use crate::words::word_kind;
 use std::alloc::Global;
+use xs_base::fault_codes::{LITERAL_TOO_WIDE, OPEN_COMMENT_OR_TEXT, STRAY_BYTE};
 use xs_base::{Bytes, Fault, FileOf, Items, Memory, Refuse, is_blank, is_word_byte};
 
-fn is_sign_byte(b: u8) -> bool
-    ensures { result ≡ spec.is_sign_byte b }
-{
-    b == b'!'
-        || b'%' <= b && b <= b'&'
-        || b'(' <= b && b <= b'/'
-        || b':' <= b && b <= b'?'
-        || b == b'['
-        || b']' <= b && b <= b'^'
-        || b'{' <= b && b <= b'~'
-}
+/// The bytes that punctuators are made of (C11 6.4.6, without those of `#`).
+pub const SIGN_BYTES: [u8; 24] = [
+    b'!', b'%', b'&', b'(', b')', b'*', b'+', b',', b'-', b'.', b'/', b':', b';', b'<', b'=', b'>',
+    b'?', b'[', b']', b'^', b'{', b'|', b'}', b'~',
+];
 
-fn goes_before_equals(a: u8) -> bool
-    ensures { result ≡ spec.goes_before_equals a }
-{
-    a == b'!'
-        || b'%' <= a && a <= b'&'
-        || b'*' <= a && a <= b'+'
-        || a == b'-'
-        || a == b'/'
-        || b'<' <= a && a <= b'>'
-        || a == b'^'
-        || a == b'|'
-}
+/// The bytes that make one punctuator with a `=` after them.
+pub const BEFORE_EQUALS: [u8; 12] = [
+    b'!', b'%', b'&', b'*', b'+', b'-', b'/', b'<', b'=', b'>', b'^', b'|',
+];
 
-fn is_doubled(a: u8) -> bool
-    ensures { result ≡ spec.is_doubled a }
+/// The bytes that make one punctuator with the same byte after them, but for `=`.
+pub const DOUBLED: [u8; 6] = [b'&', b'+', b'-', b'<', b'>', b'|'];
+
+fn is_one_of(bytes: &[u8], b: u8) -> bool
+    ensures { result ≡ spec.is_one_of bytes.now b }
 {
-    a == b'&' || a == b'+' || a == b'-' || a == b'<' || a == b'>' || a == b'|'
+    bytes.iter().any(|c| b == *c)
 }
 
 fn is_double(a: u8, b: u8) -> bool
     ensures { result ≡ spec.is_double a b }
 {
-    b == b'=' && goes_before_equals(a) || a == b && is_doubled(a) || a == b'-' && b == b'>'
+    b == b'=' && is_one_of(&BEFORE_EQUALS, a)
+        || a == b && is_one_of(&DOUBLED, a)
+        || a == b'-' && b == b'>'
 }
 
 fn fault(alloc: Global, file: FileOf, code: u16, line: u32) -> Refuse
@@ -62,20 +54,20 @@ fn fault(alloc: Global, file: FileOf, code: u16, line: u32) -> Refuse
 }
 
 fn word_token(alloc: Global, file: FileOf, line: u32, text: Bytes) -> Result<Token, Refuse>
-    ensures { Gives result (tokens.word_token file line text (words.sort_word text)) }
+    ensures { Gives result (tokens.word_token file line text (words.word_kind text)) }
 {
-    match sort_word(text.as_slice()) {
-        Some(sort) => Ok(Token { sort, text, line }),
-        None => Err(fault(alloc, file, 703, line)),
+    match word_kind(text.as_slice()) {
+        Some(kind) => Ok(Token { kind, text, line }),
+        None => Err(fault(alloc, file, LITERAL_TOO_WIDE, line)),
     }
 }
 
 /// A punctuator that stands on a line.
 fn sign(alloc: Global, line: u32, text: &[u8]) -> Result<Token, Memory>
-    ensures { IfOk result (λ t. t ≡ tokens.token sort.Sign line text.now) }
+    ensures { IfOk result (λ t. t ≡ tokens.token kind.Sign line text.now) }
 {
     Ok(Token {
-        sort: Sort::Sign,
+        kind: TokKind::Sign,
         text: Bytes::from_slice(alloc, text)?,
         line,
     })
@@ -87,7 +79,7 @@ fn at_line(line: u32, mode: Mode) -> State
     State { mode, line }
 }
 
-/// The state behind a byte with which nothing was open.
+/// The state after a byte with which nothing was open.
 #[tactic(auto, unfolding(crate::specs::Lexemes::begin))]
 fn begin(alloc: Global, file: FileOf, line: u32, b: u8) -> Result<State, Refuse>
     requires { line + 1 < 2 ^ 32 }
@@ -105,14 +97,14 @@ fn begin(alloc: Global, file: FileOf, line: u32, b: u8) -> Result<State, Refuse>
         Ok(at_line(line, Mode::Return))
     } else if b == b'"' {
         Ok(at_line(line, Mode::Text(Bytes::new(alloc))))
-    } else if is_sign_byte(b) {
+    } else if is_one_of(&SIGN_BYTES, b) {
         Ok(at_line(line, Mode::Mark(b)))
     } else {
-        Err(fault(alloc, file, 701, line))
+        Err(fault(alloc, file, STRAY_BYTE, line))
     }
 }
 
-/// The state behind a byte with which only blanks stood on the line.
+/// The state after a byte with which only blanks stood on the line.
 fn step_fresh(alloc: Global, file: FileOf, line: u32, b: u8) -> Result<State, Refuse>
     requires { line + 1 < 2 ^ 32 }
     ensures read { (out : List Token) → Moves file (spec.freshly line b) out result out }
@@ -127,7 +119,7 @@ fn step_fresh(alloc: Global, file: FileOf, line: u32, b: u8) -> Result<State, Re
     }
 }
 
-/// The end of a directive, behind which a byte 10 or the end of the text follows.
+/// The end of a directive, after which a byte 10 or the end of the text follows.
 fn end_directive(
     alloc: Global,
     file: FileOf,
@@ -135,7 +127,8 @@ fn end_directive(
     followed: bool,
     bytes: &[u8],
 ) -> Result<(), Refuse>
-    ensures { (out : List Token) → Adds file (spec.faulted line (spec.directive_fault followed bytes.now)) out result out }
+    ensures { (out : List Token)
+        → Adds file (spec.faulted line (spec.directive_fault followed bytes.now)) out result out }
 {
     match directive_fault(followed, bytes) {
         None => Ok(()),
@@ -143,10 +136,12 @@ fn end_directive(
     }
 }
 
-/// The state behind the line end of a directive.
+/// The state after the line end of a directive.
 fn next_line(alloc: Global, file: FileOf, line: u32, bytes: &[u8]) -> Result<State, Refuse>
     requires { line + 1 < 2 ^ 32 }
-    ensures read { (out : List Token) → Moves file (spec.behind (spec.faulted line (spec.directive_fault true bytes.now)) (spec.moved (line + 1) mode.Fresh)) out result out }
+    ensures read { (out : List Token)
+        → Moves file (spec.after (spec.faulted line (spec.directive_fault true bytes.now))
+        (spec.moved (line + 1) mode.Fresh)) out result out }
     ensures line { IfOk result (λ s. s.line ≤ line + 1) }
 {
     end_directive(alloc, file, line, true, bytes)?;
@@ -161,7 +156,8 @@ fn step_directive(
     b: u8,
 ) -> Result<State, Refuse>
     requires { line + 1 < 2 ^ 32 }
-    ensures read { (out : List Token) → Moves file (spec.step_at (mode.Directive bytes) line b) out result out }
+    ensures read { (out : List Token)
+        → Moves file (spec.step_at (mode.Directive bytes) line b) out result out }
     ensures line { IfOk result (λ s. s.line ≤ line + 1) }
 {
     if b == b'\n' {
@@ -205,15 +201,15 @@ fn step_text(
 {
     if b == b'"' {
         out.push(Token {
-            sort: Sort::Quoted,
+            kind: TokKind::Quoted,
             text,
             line,
         })?;
         Ok(at_line(line, Mode::Between))
     } else if b == b'\n' {
-        Err(fault(alloc, file, 702, line))
+        Err(fault(alloc, file, OPEN_COMMENT_OR_TEXT, line))
     } else if b == b'\\' {
-        Err(fault(alloc, file, 701, line))
+        Err(fault(alloc, file, STRAY_BYTE, line))
     } else {
         text.append(&[b])?;
         Ok(at_line(line, Mode::Text(text)))
@@ -243,20 +239,21 @@ fn step_mark(
     }
 }
 
-/// The state behind a byte that follows a carriage return.
+/// The state after a byte that follows a carriage return.
 fn step_return(alloc: Global, file: FileOf, line: u32, b: u8) -> Result<State, Refuse>
     requires { line + 1 < 2 ^ 32 }
-    ensures read { (out : List Token) → Moves file (spec.step_at mode.Return line b) out result out }
+    ensures read { (out : List Token)
+        → Moves file (spec.step_at mode.Return line b) out result out }
     ensures line { IfOk result (λ s. s.line ≤ line + 1) }
 {
     if b == b'\n' {
         Ok(at_line(line + 1, Mode::Fresh))
     } else {
-        Err(fault(alloc, file, 701, line))
+        Err(fault(alloc, file, STRAY_BYTE, line))
     }
 }
 
-/// The state behind a byte of a comment that was opened on a line.
+/// The state after a byte of a comment that was opened on a line.
 fn in_comment(line: u32, opened: u32, b: u8) -> State
     requires { line + 1 < 2 ^ 32 }
     ensures state { result ≡ (spec.in_comment line opened b).state }
@@ -271,7 +268,7 @@ fn in_comment(line: u32, opened: u32, b: u8) -> State
     }
 }
 
-/// Reads one byte: adds the tokens that are over, and gives the state behind it.
+/// Reads one byte: adds the tokens that are over, and gives the state after it.
 fn step(
     alloc: Global,
     out: &mut Items<Token>,
@@ -315,18 +312,21 @@ fn end(alloc: Global, out: &mut Items<Token>, file: FileOf, state: State) -> Res
             out.push(word_token(alloc, file, line, word)?)?;
             Ok(())
         }
-        Mode::Text(_) => Err(fault(alloc, file, 702, line)),
+        Mode::Text(_) => Err(fault(alloc, file, OPEN_COMMENT_OR_TEXT, line)),
         Mode::Mark(a) => {
             out.push(sign(alloc, line, &[a])?)?;
             Ok(())
         }
-        Mode::Return => Err(fault(alloc, file, 701, line)),
-        Mode::Comment(opened) | Mode::Star(opened) => Err(fault(alloc, file, 702, opened)),
+        Mode::Return => Err(fault(alloc, file, STRAY_BYTE, line)),
+        Mode::Comment(opened) | Mode::Star(opened) => {
+            Err(fault(alloc, file, OPEN_COMMENT_OR_TEXT, opened))
+        }
     }
 }
 
-/// The tokens of a C text, or its first fault: 701 for a byte that may not stand where it does, 702 for a text or comment
-/// that does not end, on the line where it begins, 703 for an integer of more than 64 bits, 706 for a `#define` that is not passed over.
+/// The tokens of a C text, or its first fault: 701 for a byte that may not stand where it does, 702
+/// for a text or comment that does not end, on the line where it begins, 703 for an integer of more
+/// than 64 bits, 706 for a `#define` that is not passed over.
 #[tactic(auto, unfolding(crate::specs::Tokens::tokens_of))]
 pub fn tokens(alloc: Global, src: &[u8], file: FileOf) -> Result<Items<Token>, Refuse>
     requires { length src.now < 2 ^ 32 - 1 }

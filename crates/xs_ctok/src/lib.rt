@@ -11,7 +11,7 @@ mod token;
 mod words;
 
 pub use directives::is_passed_line;
-pub use laws::{passed_law, pieces_law, words_law};
+pub use laws::{comments_law, passed_law, pieces_law, words_law};
 pub use lexing::tokens;
-pub use token::{Sort, Token};
+pub use token::{TokKind, Token};
 pub use words::{is_interface_word, is_key_word, is_no_name, is_type_word};

@@ -7,7 +7,7 @@ use xs_base::Bytes;
 pub enum Mode {
     /// Nothing that is still open, and only blanks stand on the line so far.
     Fresh,
-    /// A directive, so far: the bytes of the line behind its `#`.
+    /// A directive, so far: the bytes of the line after its `#`.
     Directive(Bytes),
     /// Nothing that is still open.
     Between,
@@ -15,13 +15,14 @@ pub enum Mode {
     Word(Bytes),
     /// A text in quotes, so far, without the quote.
     Text(Bytes),
-    /// A punctuator of one byte, which the next byte may make longer, or may make the opening of a comment.
+    /// A punctuator of one byte, which the next byte may make longer, or may make the opening of a
+    /// comment.
     Mark(u8),
-    /// A carriage return, behind which the line has to end.
+    /// A carriage return, after which the line has to end.
     Return,
     /// A comment that was opened on this line.
     Comment(u32),
-    /// The same, behind a `*` in it.
+    /// The same, after a `*` in it.
     Star(u32),
 }
 

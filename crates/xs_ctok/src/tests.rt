@@ -1,31 +1,32 @@
 //! Texts and their tokens.
 
-use crate::{Sort, is_no_name, is_passed_line, is_type_word, tokens};
+use crate::{TokKind, is_no_name, is_passed_line, is_type_word, tokens};
 use std::alloc::Global;
 use std::process::Abort;
 use std::test::Fail;
 use xs_base::{Bytes, FileOf, Memory, Refuse};
 
-fn letter(sort: Sort) -> &'static str {
-    match sort {
-        Sort::Key => "k",
-        Sort::Name => "n",
-        Sort::Numeral(_) => "#",
-        Sort::OtherNumeral => "?",
-        Sort::Quoted => "q",
-        Sort::Sign => "s",
+fn letter(kind: TokKind) -> &'static str {
+    match kind {
+        TokKind::Key => "k",
+        TokKind::Name => "n",
+        TokKind::Numeral(_) => "#",
+        TokKind::OtherNumeral => "?",
+        TokKind::Quoted => "q",
+        TokKind::Sign => "s",
     }
 }
 
-/// The tokens of a text, each with its line and a letter for its sort, or the code and the line of its fault.
-fn told(rt: &impl Abort, alloc: Global, text: &str) -> Result<Bytes, Memory> {
+/// The tokens of a text, each with its line and a letter for its kind, or the code and the line of
+/// its fault.
+fn listed(rt: &impl Abort, alloc: Global, text: &str) -> Result<Bytes, Memory> {
     assert!(rt; text.len() < 10000);
     let mut out = Bytes::new(alloc);
     match tokens(alloc, text.as_bytes(), FileOf::Text) {
         Ok(all) => {
             for token in all.as_slice() {
                 out.append_number(alloc, token.line as u64)?;
-                out.append(letter(token.sort).as_bytes())?;
+                out.append(letter(token.kind).as_bytes())?;
                 out.append(token.text.as_slice())?;
                 out.append(b" ")?;
             }
@@ -42,7 +43,7 @@ fn told(rt: &impl Abort, alloc: Global, text: &str) -> Result<Bytes, Memory> {
 
 #[test]
 fn texts(rt: HostRuntime) -> Result<(), Fail> {
-    let rows: [(&str, &str); 31] = [
+    let rows: [(&str, &str); 37] = [
         ("", ""),
         (
             "if (x1 != 07)\r\n y->z = \"a b\";",
@@ -53,6 +54,8 @@ fn texts(rt: HostRuntime) -> Result<(), Fail> {
             "1na 2#18446744073709551615 ",
         ),
         ("18446744073709551616", "703 at 1"),
+        ("a\n18446744073709551616x", "703 at 2"),
+        ("18446744073709551615x", "1?18446744073709551615x "),
         ("a+++b", "1na 1s++ 1s+ 1nb "),
         ("a$", "701 at 1"),
         ("a\n\"b\\\"", "701 at 2"),
@@ -65,6 +68,13 @@ fn texts(rt: HostRuntime) -> Result<(), Fail> {
             "",
         ),
         ("#include <x>\r\n#define PERL_NO_GET_CONTEXT\r\n\r\n", ""),
+        (
+            "#define PERL_NO_GET_CONTEXT /* a **/ /* / */ // b /*\r\na",
+            "2na ",
+        ),
+        ("#define PERL_NO_GET_CONTEXT/**/\t", ""),
+        ("#define PERL_NO_GET_CONTEXT /* a */ b\n", "706 at 1"),
+        ("#define PERL_NO_GET_CONTEXT /* a\n*/", "706 at 1"),
         ("#define PERL_NO_GET_CONTEXT\r", "706 at 1"),
         ("#define PERL_NO_GET_CONTEXT\r\r\n", "706 at 1"),
         ("\n#define N 1\n", "706 at 2"),
@@ -84,9 +94,9 @@ fn texts(rt: HostRuntime) -> Result<(), Fail> {
         ("int IV SV ST items", "1kint 1kIV 1kSV 1kST 1kitems "),
         ("1 01 1x 0", "1#1 1?01 1?1x 1#0 "),
     ];
-    for (text, wanted) in rows {
-        let got = told(&rt, rt.alloc(), text)?;
-        assert_eq!(rt; got.as_slice(), wanted.as_bytes(), "{text}");
+    for (text, expected) in rows {
+        let got = listed(&rt, rt.alloc(), text)?;
+        assert_eq!(rt; got.as_slice(), expected.as_bytes(), "{text}");
     }
     Ok(())
 }
@@ -109,12 +119,15 @@ fn words(rt: HostRuntime) -> Result<(), Fail> {
 
 #[test]
 fn passed_lines(rt: HostRuntime) -> Result<(), Fail> {
-    let rows: [(&str, bool); 9] = [
+    let rows: [(&str, bool); 12] = [
         ("", true),
         (" \t", true),
         (" #\tinclude <x>", true),
         ("#define PERL_NO_GET_CONTEXT ", true),
         ("#define PERL_NO_GET_CONTEXT\r", false),
+        ("#define PERL_NO_GET_CONTEXT /* a */ // b", true),
+        ("#define PERL_NO_GET_CONTEXT // b", true),
+        ("#define PERL_NO_GET_CONTEXT /* a", false),
         ("#include <x>\n", false),
         ("#define N 1", false),
         ("/* */", false),

@@ -4,7 +4,7 @@ use xs_base::Bytes;
 
 /// What a token is to the grammar.
 #[derive(Clone, Copy, Debug, PartialEq, Eq)]
-pub enum Sort {
+pub enum TokKind {
     /// A word that the grammar, the XS interface or the glue gives a meaning.
     Key,
     /// Any other word.
@@ -22,7 +22,7 @@ pub enum Sort {
 /// A token, and the line that it stands on, counted from 1.
 #[derive(Debug, Drop)]
 pub struct Token {
-    pub sort: Sort,
+    pub kind: TokKind,
     pub text: Bytes,
     pub line: u32,
 }

@@ -1,18 +1,19 @@
-//! The words of C text are told apart.
+//! Which words of C text have a meaning of their own.
 
 ghost use Rattle.std.specs.Prelude.{◌≡◌};
 ghost use Rattle.xs_base.specs.Names as names;
-ghost use Rattle.xs_base.specs.Scanning.{value_of_digits};
-ghost use Rattle.xs_ctok.specs.Words as spec;
+ghost use Rattle.xs_ctok.specs.CWords as spec;
 
-use crate::token::Sort;
-use xs_base::{digits_value, is_among, is_decimal, is_digit};
+use crate::token::TokKind;
+use xs_base::{ByteClass, cut_run, digits_value, is_among, is_ascii_digit, is_decimal};
 
-/// The words by which types are told.
-const TYPE_WORDS: [&str; 3] = ["int", "IV", "SV"];
+/// The words of types (C11 6.7.2, perlguts).
+pub const TYPE_WORDS: [&str; 3] = ["int", "IV", "SV"];
 
-/// Further words that are no name: the words of C that this grammar has in quotes, and words that no reading takes.
-const NO_NAMES: [&str; 50] = [
+/// Further words of C and of perl that name nothing: the words of glue functions and of tests, and
+/// those that no rule has, which are other types, other statements, storage classes (C11 6.4.1) and
+/// perl's declarations (perlguts).
+pub const NO_NAMES: [&str; 50] = [
     "XS",
     "if",
     "char",
@@ -65,8 +66,9 @@ const NO_NAMES: [&str; 50] = [
     "dNOOP",
 ];
 
-/// Words of the XS interface (perlxs, perlapi), which are names where no rule of the grammar has them.
-const INTERFACE_WORDS: [&str; 24] = [
+/// Words to which the XS interface gives a meaning (perlxs, perlapi), so that no variable has such
+/// a name. They are names where no rule of the grammar has them.
+pub const INTERFACE_WORDS: [&str; 24] = [
     "ST",
     "dXSARGS",
     "dXSI32",
@@ -93,10 +95,10 @@ const INTERFACE_WORDS: [&str; 24] = [
     "sv_setiv",
 ];
 
-/// The variables of the glue's results.
-const RESULT_WORDS: [&str; 2] = ["RETVAL", "RETVALSV"];
+/// The variables of the glue's results (perlxs).
+pub const RESULT_WORDS: [&str; 2] = ["RETVAL", "RETVALSV"];
 
-/// Whether a word tells a type.
+/// Whether a word is one of those of types.
 pub fn is_type_word(word: &[u8]) -> bool
     ensures { result ≡ names.is_among spec.type_words word.now }
 {
@@ -111,7 +113,7 @@ pub fn is_no_name(word: &[u8]) -> bool
 }
 
 /// Whether the XS interface gives a meaning to a word (perlxs, perlapi).
-#[tactic(auto, unfolding(crate::specs::Words::is_interface_word))]
+#[tactic(auto, unfolding(crate::specs::CWords::is_interface_word))]
 pub fn is_interface_word(word: &[u8]) -> bool
     ensures { result ≡ spec.is_interface_word word.now }
 {
@@ -119,40 +121,60 @@ pub fn is_interface_word(word: &[u8]) -> bool
 }
 
 /// Whether the grammar, the XS interface or the glue gives a meaning to a word.
-#[tactic(auto, unfolding(crate::specs::Words::is_interface_word))]
+#[tactic(auto, unfolding(crate::specs::CWords::is_interface_word))]
 pub fn is_key_word(word: &[u8]) -> bool
     ensures { result ≡ spec.is_key_word word.now }
 {
     is_no_name(word) || is_interface_word(word) || is_among(&RESULT_WORDS, word)
 }
 
-fn value_sort(word: &[u8]) -> Option<Sort>
-    ensures { result ≡ spec.sort_value (value_of_digits word.now) }
+/// This kind, if 64 bits hold the value of the digits.
+fn fitting(kind: TokKind, digits: &[u8]) -> Option<TokKind>
+    ensures { result ≡ spec.fitting kind digits.now }
 {
-    match digits_value(word) {
-        Some(n) => Some(Sort::Numeral(n)),
+    match digits_value(digits) {
+        Some(_) => Some(kind),
         None => None,
     }
 }
 
-/// The sort of a word, and None where it is an integer that 64 bits do not hold.
-#[tactic(auto, unfolding(crate::specs::Words::sort_word))]
-pub fn sort_word(word: &[u8]) -> Option<Sort>
-    ensures { result ≡ spec.sort_word word.now }
+/// The kind of a decimal integer, if 64 bits hold it.
+fn decimal_kind(digits: &[u8]) -> Option<TokKind>
+    ensures { result ≡ spec.decimal_kind digits.now }
+{
+    match digits_value(digits) {
+        Some(n) => Some(TokKind::Numeral(n)),
+        None => None,
+    }
+}
+
+/// The kind of a word that begins with a digit, and None where the longest decimal integer in front
+/// of it is one that 64 bits do not hold. An octal or hexadecimal integer, which begins with `0`
+/// (C11 6.4.4.1), has no value here.
+fn numeral_kind(word: &[u8]) -> Option<TokKind>
+    ensures { result ≡ spec.numeral_kind word.now }
+{
+    if is_decimal(word) {
+        return decimal_kind(word);
+    }
+    match word {
+        [b'0', ..] => Some(TokKind::OtherNumeral),
+        _ => fitting(TokKind::OtherNumeral, cut_run(ByteClass::Digit, word).0),
+    }
+}
+
+/// The kind of a word, and None where it begins with a decimal integer that 64 bits do not hold.
+#[tactic(auto, unfolding(crate::specs::CWords::word_kind))]
+pub fn word_kind(word: &[u8]) -> Option<TokKind>
+    ensures { result ≡ spec.word_kind word.now }
 {
     match word {
-        [first, ..] if is_digit(*first) => {
-            if is_decimal(word) {
-                value_sort(word)
-            } else {
-                Some(Sort::OtherNumeral)
-            }
-        }
+        [first, ..] if is_ascii_digit(*first) => numeral_kind(word),
         _ => {
             if is_key_word(word) {
-                Some(Sort::Key)
+                Some(TokKind::Key)
             } else {
-                Some(Sort::Name)
+                Some(TokKind::Name)
             }
         }
     }

@@ -9,8 +9,10 @@ use Rattle.std.specs.Prelude.{nat_le, if◌then◌else◌}
 use Rattle.std.specs.Str.{bytes_eq}
 use Rattle.xs_base.specs.Names.{is_among}
 use Rattle.xs_base.proofs.Choices.{none_of_both, none_unless}
-use Rattle.xs_iface.specs.Iface.{first_fault, name_fault, param_fault}
-use Rattle.xs_sections.specs.Faults.{fault_at}
+use Rattle.xs_iface.specs.Iface.{name_fault, param_fault}
+use Rattle.xs_base.specs.Faults.{first_fault}
+use Rattle.xs_base.specs.declared.fault_codes.TheConstants.{NAME_TWICE, PARAMETER_TWICE, TOO_MANY_PARAMETERS}
+use Rattle.xs_sections.specs.SectionFaults.{fault_at}
 use Rattle.std.specs.List.{AllByRecursion as All}
 use Rattle.xs_iface.specs.SumForm.{Differ}
 use Rattle.xs_iface.specs.declared.xsub.Xsub.{Xsub}
@@ -21,7 +23,8 @@ Apart before [] = Unit {0}
 Apart before (n ∷ ns) = (is_among before n ≡ false) × Apart (before ++ n ∷ []) ns
 
 -- a name that is not among names and a last one
-not_last : (before : List (List ℕ)) (last name : List ℕ) → is_among (before ++ last ∷ []) name ≡ false → (is_among before name ≡ false) × (bytes_eq last name ≡ false)
+not_last : (before : List (List ℕ)) (last name : List ℕ) → is_among (before ++ last ∷ []) name ≡ false
+    → (is_among before name ≡ false) × (bytes_eq last name ≡ false)
 not_last before last name h =
     let g = or_parts (is_among before name) (bytes_eq last name || false) (sym (list_any-append (λ n. bytes_eq n name) before (last ∷ [])) ∙ h) in
     (g.0, (or_parts (bytes_eq last name) false g.1).0)
@@ -52,15 +55,18 @@ pub params_apart : (line : ℕ) (before names : List (List ℕ)) → first_fault
 params_apart line before [] h = tt
 params_apart line before (n ∷ ns) h =
     let g = none_of_both (param_fault line before n) (first_fault (param_fault line) (before ++ n ∷ []) ns) h in
-    let f = none_unless (is_among before n) (fault_at line 303 n) (if nat_le 64 (length before) then Some (fault_at line 304 []) else None) g.0 in
+    let f = none_unless (is_among before n) (fault_at line PARAMETER_TWICE n) (if nat_le 64 (length before) then Some (fault_at line TOO_MANY_PARAMETERS [])
+    else None) g.0 in
     (f.0, params_apart line (before ++ n ∷ []) ns g.1)
 
-pub few_names : (line : ℕ) (before names : List (List ℕ)) → first_fault (param_fault line) before names ≡ None → length before ≤ 64 → length before + length names ≤ 64
+pub few_names : (line : ℕ) (before names : List (List ℕ)) → first_fault (param_fault line) before names ≡ None → length before ≤ 64
+    → length before + length names ≤ 64
 few_names line before [] h few = omega (arith, few)
 few_names line before (n ∷ ns) h few =
     let g = none_of_both (param_fault line before n) (first_fault (param_fault line) (before ++ n ∷ []) ns) h in
-    let f = none_unless (is_among before n) (fault_at line 303 n) (if nat_le 64 (length before) then Some (fault_at line 304 []) else None) g.0 in
-    let m = none_unless (nat_le 64 (length before)) (fault_at line 304 []) None f.1 in
+    let f = none_unless (is_among before n) (fault_at line PARAMETER_TWICE n) (if nat_le 64 (length before) then Some (fault_at line TOO_MANY_PARAMETERS [])
+    else None) g.0 in
+    let m = none_unless (nat_le 64 (length before)) (fault_at line TOO_MANY_PARAMETERS []) None f.1 in
     let more : length (before ++ n ∷ []) ≡ length before + 1 = length-append before (n ∷ []) in
     let room = leb-false 64 (length before) m.0 in
     let r = few_names line (before ++ n ∷ []) ns g.1 (omega (arith, more, room)) in
@@ -77,7 +83,8 @@ pub names_apart : (before xs : List Xsub) → first_fault name_fault before xs �
 names_apart before [] h = (tt, tt)
 names_apart before (x ∷ xs) h =
     let g = none_of_both (name_fault before x) (first_fault name_fault (before ++ x ∷ []) xs) h in
-    let f = none_unless (is_among (map (λ (e : Xsub). e.full) before) x.full || is_among (map (λ (e : Xsub). e.glue) before) x.glue) (fault_at x.line 407 x.full) None g.0 in
+    let f = none_unless (is_among (map (λ (e : Xsub). e.full) before) x.full || is_among (map (λ (e : Xsub). e.glue) before) x.glue)
+    (fault_at x.line NAME_TWICE x.full) None g.0 in
     let n = or_parts (is_among (map (λ (e : Xsub). e.full) before) x.full) (is_among (map (λ (e : Xsub). e.glue) before) x.glue) f.0 in
     let r = names_apart (before ++ x ∷ []) xs g.1 in
     let P : List (List ℕ) → Type 0 = λ ns. Apart ns (map (λ (e : Xsub). e.full) xs) in

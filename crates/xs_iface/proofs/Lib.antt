@@ -2,5 +2,6 @@ pub mod Apart
 pub mod Chains
 pub mod NameBytes
 pub mod Noted
-pub mod Sums
-pub mod Places
+pub mod ModulesAreSums
+pub mod SmallIndexes
+pub mod BuiltForms

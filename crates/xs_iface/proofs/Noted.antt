@@ -14,7 +14,8 @@ same_both_ways (x ∷ xs) [] = refl
 same_both_ways (x ∷ xs) (y ∷ ys) = grind (arith, nat_tests, same_both_ways xs ys)
 
 -- a set has a name where the names that it holds have it
-pub set_has : (slices : List (Bor (List ℕ))) (name : Bor (List ℕ)) → list_any (λ (slice : Bor (List ℕ)). bytes_eq name.now slice.now) slices ≡ is_among (names_of slices) name.now
+pub set_has : (slices : List (Bor (List ℕ))) (name : Bor (List ℕ)) → list_any (λ (slice : Bor (List ℕ)). bytes_eq name.now slice.now) slices
+    ≡ is_among (names_of slices) name.now
 set_has [] name = refl
 set_has (slice ∷ slices) name =
     ap (λ t. t || list_any (λ (s : Bor (List ℕ)). bytes_eq name.now s.now) slices) (same_both_ways name.now slice.now)

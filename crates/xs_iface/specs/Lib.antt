@@ -1,6 +1,7 @@
 pub mod Scan
-pub mod Words
+pub mod ReservedWords
 pub mod Paragraph
 pub mod Iface
 pub mod SumForm
+pub mod Laws
 pub mod Repeats

@@ -3,30 +3,38 @@ use Rattle.std.specs.List.{list_all, position}
 use Rattle.std.specs.Option.{option_map, unwrap_or}
 use Rattle.std.specs.Prelude.{ℕ, ◌==◌, ◌&&◌, ◌||◌, not, nat_le, Bool, false, List, [], ◌∷◌, length, codes, Option, None, Some, is_some, option_and_then, if◌then◌else◌}
 use Rattle.std.specs.Str.{bytes_eq}
-use Rattle.xs_base.specs.declared.place.Line.{Line}
+use Rattle.xs_base.specs.declared.source.Line.{Line}
 use Rattle.xs_iface.specs.declared.paragraph.Interface.{Interface}
 use Rattle.xs_iface.specs.declared.paragraph.Paragraph.{Paragraph}
 use Rattle.xs_iface.specs.declared.paragraph.Sum.{Sum}
-use Rattle.xs_base.specs.declared.runs.ByteClass.TheVariants.{Blank, Word}
-use Rattle.xs_iface.specs.declared.terms.TheConstants.{INT_MAX, MOST_TERMS}
+use Rattle.xs_base.specs.declared.byte_runs.ByteClass.TheVariants.{Blank, Word}
 use Rattle.xs_iface.specs.declared.xsub.Term.{Term}
 use Rattle.xs_iface.specs.declared.xsub.Term.TheVariants.{Literal, Parameter}
-use Rattle.xs_iface.specs.Words.{is_free}
+use Rattle.xs_iface.specs.ReservedWords.{is_free}
 use Rattle.xs_base.specs.Names.{is_among}
-use Rattle.xs_base.specs.Runs.{behind, behind_blanks, front_of}
+use Rattle.xs_base.specs.ByteRuns.{after_run, after_blanks, front_of}
 use Rattle.xs_base.specs.Readers.{head_is}
-use Rattle.xs_base.specs.Scanning.{after_word, is_blank_line, is_decimal, is_digit, value_of_digits}
+use Rattle.xs_base.specs.Scanning.{strip_prefix, is_blank_line, is_decimal, is_ascii_digit, value_of_digits}
 use Rattle.xs_iface.specs.Scan.{Chain, chain_of}
 
 -- ---- terms
 
+-- the greatest value of an `int`
+abbrev pub greatest_int : ℕ
+greatest_int = 2147483647
+
+-- how many terms a sum may have
+abbrev pub term_limit : ℕ
+term_limit = 32
+
 -- digits, one at least, without a zero in front of others
 abbrev pub is_literal : List ℕ → Bool
-is_literal word = head_is is_digit word && is_decimal word
+is_literal word = head_is is_ascii_digit word && is_decimal word
 
 -- the value of a decimal literal, which is at most the greatest `int`
 abbrev pub literal_of : List ℕ → Option ℕ
-literal_of word = if is_literal word && nat_le (value_of_digits word) INT_MAX then Some (value_of_digits word) else None
+literal_of word = if is_literal word && nat_le (value_of_digits word) greatest_int then Some
+    (value_of_digits word) else None
 
 -- A term is the name of a parameter, or a literal.
 abbrev pub is_term : List (List ℕ) → List ℕ → Bool
@@ -45,7 +53,7 @@ term_of params word = term_at word (position (λ name. bytes_eq name word) param
 
 -- a line of blanks, if any, and a word
 abbrev pub is_block_line : List ℕ → List ℕ → Bool
-is_block_line word text = bytes_eq (behind_blanks text) word
+is_block_line word text = bytes_eq (after_blanks text) word
 
 -- the names are free, and the line is at its end
 abbrev pub interface_with : List ℕ → Chain → Option Interface
@@ -55,25 +63,31 @@ interface_with function names =
 
 -- `f(int p, int q, ..)`, of one parameter or more
 abbrev pub interface_of : List ℕ → Option Interface
-interface_of text = option_and_then (λ list. interface_with (front_of Word text) (chain_of (codes ", int ") list)) (after_word (codes "(int ") (behind Word text))
+interface_of text =
+    option_and_then (λ list. interface_with (front_of Word text) (chain_of (codes ", int ") list))
+    (strip_prefix (codes "(int ") (after_run Word text))
 
 -- the words are terms, no more than may be, and the line is at its end
 abbrev pub sum_with : List (List ℕ) → List ℕ → Chain → Option Sum
 sum_with params indent words =
-    if bytes_eq words.1 (codes ";") && nat_le (length words.0) MOST_TERMS && list_all (is_term params) words.0
+    if bytes_eq words.1 (codes ";") && nat_le (length words.0) term_limit
+    && list_all (is_term params) words.0
     then Some (record { indent = indent; words = words.0 }) else None
 
--- `RETVAL = T + T + ..;` behind blanks, if any
+-- `RETVAL = T + T + ..;` after blanks, if any
 abbrev pub sum_of : List (List ℕ) → List ℕ → Option Sum
 sum_of params text =
-    option_and_then (λ terms. sum_with params (front_of Blank text) (chain_of (codes " + ") terms)) (after_word (codes "RETVAL = ") (behind_blanks text))
+    option_and_then (λ terms. sum_with params (front_of Blank text) (chain_of (codes " + ") terms))
+    (strip_prefix (codes "RETVAL = ") (after_blanks text))
 
 -- ---- paragraphs
 
--- the lines around the names and the terms: the type of the result, the keywords, RETVAL, and empty lines at the end
+-- the lines around the names and the terms: the type of the result, the keywords, RETVAL, and empty
+-- lines at the end
 abbrev pub is_frame : List ℕ → List ℕ → List ℕ → List ℕ → List Line → Bool
 is_frame kind code output retval more =
-    bytes_eq kind (codes "int") && is_block_line (codes "CODE:") code && is_block_line (codes "OUTPUT:") output && is_block_line (codes "RETVAL") retval
+    bytes_eq kind (codes "int") && is_block_line (codes "CODE:") code
+    && is_block_line (codes "OUTPUT:") output && is_block_line (codes "RETVAL") retval
     && list_all (λ (line : Line). is_blank_line line.text) more
 
 abbrev pub paragraph_from : Line → Line → ℕ → Interface → Sum → Paragraph
@@ -91,12 +105,15 @@ paragraph_from interface sum output_line names terms =
 -- what the interface line and the line of the sum say
 abbrev pub paragraph_with : Line → Line → ℕ → Option Paragraph
 paragraph_with interface sum output_line =
-    option_and_then (λ names. option_map (paragraph_from interface sum output_line names) (sum_of names.params sum.text)) (interface_of interface.text)
+    option_and_then (λ names. option_map (paragraph_from interface sum output_line names)
+    (sum_of names.params sum.text)) (interface_of interface.text)
 
--- A paragraph of the form is six lines, `int`, the interface, `CODE:`, the sum, `OUTPUT:` and `RETVAL`, and empty lines behind them.
+-- A paragraph of the form is six lines, `int`, the interface, `CODE:`, the sum, `OUTPUT:` and
+-- `RETVAL`, and empty lines after them.
 abbrev pub paragraph_of : List Line → Option Paragraph
 paragraph_of (kind ∷ interface ∷ code ∷ sum ∷ output ∷ retval ∷ more) =
-    if is_frame kind.text code.text output.text retval.text more then paragraph_with interface sum retval.number else None
+    if is_frame kind.text code.text output.text retval.text more then paragraph_with interface sum
+    retval.number else None
 paragraph_of _ = None
 
 -- whether lines are a paragraph of the form

@@ -1,10 +1,10 @@
 -- Words with a divider between them.
 use Rattle.std.specs.Prelude.{ℕ, zero, suc, length, List, [], ◌∷◌, Option, Some, None}
-use Rattle.xs_base.specs.Runs.{behind, front_of}
-use Rattle.xs_base.specs.Scanning.{after_word}
-use Rattle.xs_base.specs.declared.runs.ByteClass.TheVariants.{Word}
+use Rattle.xs_base.specs.ByteRuns.{after_run, front_of}
+use Rattle.xs_base.specs.Scanning.{strip_prefix}
+use Rattle.xs_base.specs.declared.byte_runs.ByteClass.TheVariants.{Word}
 
--- words with a divider between them, and what stands behind the last
+-- words with a divider between them, and what stands after the last
 abbrev pub Chain : Type 0
 Chain = List (List ℕ) × List ℕ
 
@@ -16,8 +16,11 @@ linked more word rest (Some next) = (word ∷ (more next).0, (more next).1)
 -- a chain of at most so many words
 abbrev pub chain_within : ℕ → List ℕ → List ℕ → Chain
 chain_within zero divider text = ([], text)
-chain_within (suc n) divider text = linked (chain_within n divider) (front_of Word text) (behind Word text) (after_word divider (behind Word text))
+chain_within (suc n) divider text =
+    linked (chain_within n divider) (front_of Word text) (after_run Word text)
+    (strip_prefix divider (after_run Word text))
 
--- The words in front of a text, as far as the divider stands between them; there are no more than bytes.
+-- The words in front of a text, as far as the divider stands between them; there are no more than
+-- bytes.
 unfoldable pub chain_of : List ℕ → List ℕ → Chain
 chain_of divider text = chain_within (length text) divider text

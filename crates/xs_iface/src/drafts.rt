@@ -1,13 +1,15 @@
-//! Paragraphs of the form, with the names of their functions.
+//! Paragraphs of the form, with the names of their functions; or the fault of the first form that
+//! is not built.
 ghost use Rattle.std.specs.Prelude.{◌≡◌, IfOk};
 ghost use Rattle.xs_base.specs.Reading.{Gives, collect};
-ghost use Rattle.xs_iface.specs.Iface.{body_paragraph, draft_from, draft_of, part_line};
+ghost use Rattle.xs_iface.specs.Iface.{body_paragraph, c_part_fault, draft_from, draft_of, drafts_of};
 
 use crate::paragraph::{Paragraph, read_paragraph};
 use crate::spelling::{full_name, glue_name, perl_name};
 use std::alloc::Global;
-use xs_base::{Bytes, Fault, FileOf, Items, Memory, Refuse};
-use xs_sections::{Part, PartBody};
+use xs_base::{Bytes, Fault, FileOf, Items, Line, Memory, Refuse};
+use xs_ctok::is_passed_line;
+use xs_sections::{Part, PartBody, Sections};
 
 /// A paragraph of the form, and the names of its function.
 #[derive(Debug, Drop)]
@@ -19,30 +21,18 @@ pub struct Draft {
     pub paragraph: Paragraph,
 }
 
-/// The line at which a part that is not of the form is refused: its first, or that of the last MODULE line where it has none. A typemap
-/// block begins on the line before its first entry.
-pub fn part_line(module_line: u32, body: &PartBody) -> u32
-    ensures { result ≡ part_line module_line body.now }
-{
-    match body {
-        PartBody::Para(lines) => match lines.as_slice() {
-            [] => module_line,
-            [line, ..] => line.number,
-        },
-        PartBody::Map(lines) => match lines.as_slice() {
-            [] => module_line,
-            [line, ..] => line.number.saturating_sub(1),
-        },
-    }
-}
-
 // A paragraph with the names of its function.
-fn name_paragraph(alloc: Global, part: &Part, paragraph: Paragraph) -> Result<Draft, Memory>
-    ensures { IfOk result (λ draft. draft ≡ draft_from part.now paragraph) }
+fn name_paragraph(
+    alloc: Global,
+    s: &Sections,
+    part: &Part,
+    paragraph: Paragraph,
+) -> Result<Draft, Memory>
+    ensures { IfOk result (λ draft. draft ≡ draft_from s.now part.now paragraph) }
 {
-    let name = perl_name(part.prefix.as_slice(), paragraph.function.as_slice());
-    let full = full_name(alloc, part.package.as_slice(), name)?;
-    let glue = glue_name(alloc, part.package.as_slice(), name)?;
+    let name = perl_name(s.prefix_of(part), paragraph.function.as_slice());
+    let full = full_name(alloc, s.package_of(part), name)?;
+    let glue = glue_name(alloc, s.package_of(part), name)?;
     Ok(Draft {
         full,
         glue,
@@ -64,30 +54,52 @@ fn read_body(alloc: Global, body: &PartBody) -> Result<Option<Paragraph>, Memory
 }
 
 // A part, or the fault of one that is not of the form.
-fn read_draft(alloc: Global, module_line: u32, part: &Part) -> Result<Draft, Refuse>
-    ensures { Gives result (draft_of module_line part.now) }
+fn read_draft(alloc: Global, s: &Sections, part: &Part) -> Result<Draft, Refuse>
+    ensures { Gives result (draft_of s.now part.now) }
 {
     match read_body(alloc, &part.body)? {
         Some(paragraph) => {
-            let draft = name_paragraph(alloc, part, paragraph)?;
+            let draft = name_paragraph(alloc, s, part, paragraph)?;
             Ok(draft)
         }
-        None => Err(Refuse::Fault(Fault::not_built(
-            alloc,
-            FileOf::Xs,
-            part_line(module_line, &part.body),
-        ))),
+        None => Err(Refuse::Fault(Fault::not_built(alloc, FileOf::Xs, part.line))),
     }
 }
 
-/// All parts, or the fault of the first that is not of the form.
-pub fn read_drafts(alloc: Global, module_line: u32, parts: &[Part]) -> Result<Items<Draft>, Refuse>
-    ensures { Gives result (collect (draft_of module_line) parts.now) }
+// All parts, or the fault of the first that is not of the form.
+fn read_parts(alloc: Global, s: &Sections, parts: &[Part]) -> Result<Items<Draft>, Refuse>
+    ensures { Gives result (collect (draft_of s.now) parts.now) }
 {
     let mut drafts = Items::new(alloc);
     for part in parts {
-        let draft = read_draft(alloc, module_line, part)?;
+        let draft = read_draft(alloc, s, part)?;
         drafts.push(draft)?;
     }
     Ok(drafts)
+}
+
+// The fault of the first line of the C part that is of no form that is built.
+fn c_part_fault(alloc: Global, lines: &[Line]) -> Option<Fault>
+    ensures { result ≡ c_part_fault lines.now }
+{
+    for line in lines {
+        if !is_passed_line(line.text.as_slice()) {
+            return Some(Fault::not_built(alloc, FileOf::Xs, line.number));
+        }
+    }
+    None
+}
+
+/// All parts, or the fault of the first form that is not built: the C part stands before the parts.
+#[tactic(auto, unfolding(crate::specs::Iface::drafts_of))]
+pub fn read_drafts(alloc: Global, s: &Sections) -> Result<Items<Draft>, Refuse>
+    ensures { Gives result (drafts_of s.now) }
+{
+    match c_part_fault(alloc, s.c_part.as_slice()) {
+        Some(fault) => Err(Refuse::Fault(fault)),
+        None => {
+            let drafts = read_parts(alloc, s, s.parts.as_slice())?;
+            Ok(drafts)
+        }
+    }
 }

@@ -3,21 +3,20 @@
 
 mod drafts;
 mod laws;
+mod module_reading;
 mod paragraph;
-mod reading;
 mod repeats;
+mod reserved_words;
 mod resolving;
 mod scan;
 mod spelling;
 mod terms;
 #[cfg(test)]
 mod tests;
-mod words;
 mod xsub;
 
-pub use drafts::part_line;
-pub use laws::module_is_of_sums;
+pub use laws::{module_is_of_built_forms, module_is_of_sums, unbuilt_form_has_its_line};
+pub use module_reading::read_module;
 pub use paragraph::is_sum_xsub;
-pub use reading::read_module;
 pub use spelling::underscored;
 pub use xsub::{Module, Param, Term, Xsub};

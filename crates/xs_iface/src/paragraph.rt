@@ -3,14 +3,14 @@ ghost use Rattle.std.specs.List.{list_all};
 ghost use Rattle.std.specs.Prelude.{◌≡◌, IfOk, MatchOption, None, Some};
 ghost use Rattle.xs_base.specs.Scanning.{is_blank_line};
 ghost use Rattle.xs_iface.specs.Paragraph.{interface_of, is_block_line, is_frame, is_sum_paragraph, paragraph_of, paragraph_with, sum_of};
-ghost use Rattle.xs_iface.specs.Words.{is_free};
+ghost use Rattle.xs_iface.specs.ReservedWords.{is_free};
 
+use crate::reserved_words::{is_free, is_same};
 use crate::scan::read_chain;
 use crate::terms::{MOST_TERMS, are_terms};
-use crate::words::{is_free, is_same};
 use std::alloc::Global;
 use xs_base::{
-    ByteClass, Bytes, Items, Line, Memory, after_word, behind_blanks, cut_run, is_blank_line,
+    ByteClass, Bytes, Items, Line, Memory, after_blanks, cut_run, is_blank_line, strip_prefix,
 };
 
 /// What an interface line says.
@@ -48,7 +48,7 @@ pub struct Paragraph {
 fn is_block_line(word: &[u8], text: &[u8]) -> bool
     ensures { result ≡ is_block_line word.now text.now }
 {
-    is_same(behind_blanks(text), word)
+    is_same(after_blanks(text), word)
 }
 
 // Whether each name is free.
@@ -63,7 +63,7 @@ fn read_interface(alloc: Global, text: &[u8]) -> Result<Option<Interface>, Memor
     ensures { IfOk result (λ names. names ≡ interface_of text.now) }
 {
     let (function, rest) = cut_run(ByteClass::Word, text);
-    let Some(list) = after_word(b"(int ", rest) else {
+    let Some(list) = strip_prefix(b"(int ", rest) else {
         return Ok(None);
     };
     let (params, rest) = read_chain(alloc, b", int ", list)?;
@@ -77,12 +77,12 @@ fn read_interface(alloc: Global, text: &[u8]) -> Result<Option<Interface>, Memor
     }
 }
 
-// `RETVAL = T + T + ..;` behind blanks, if any.
+// `RETVAL = T + T + ..;` after blanks, if any.
 fn read_sum(alloc: Global, params: &[Bytes], text: &[u8]) -> Result<Option<Sum>, Memory>
     ensures { IfOk result (λ sum. sum ≡ sum_of params.now text.now) }
 {
     let (indent, right) = cut_run(ByteClass::Blank, text);
-    let Some(terms) = after_word(b"RETVAL = ", right) else {
+    let Some(terms) = strip_prefix(b"RETVAL = ", right) else {
         return Ok(None);
     };
     let (words, rest) = read_chain(alloc, b" + ", terms)?;
@@ -105,7 +105,8 @@ fn are_empty(lines: &[Line]) -> bool
 
 // Whether the lines around the names and the terms are those of the form.
 fn is_frame(kind: &Line, code: &Line, output: &Line, retval: &Line, more: &[Line]) -> bool
-    ensures { result ≡ is_frame kind.now.text code.now.text output.now.text retval.now.text more.now }
+    ensures { result
+        ≡ is_frame kind.now.text code.now.text output.now.text retval.now.text more.now }
 {
     is_same(kind.text.as_slice(), b"int")
         && is_block_line(b"CODE:", code.text.as_slice())
@@ -121,7 +122,8 @@ fn read_lines(
     sum: &Line,
     output_line: u32,
 ) -> Result<Option<Paragraph>, Memory>
-    ensures { IfOk result (λ paragraph. paragraph ≡ paragraph_with interface.now sum.now output_line) }
+    ensures { IfOk result (λ paragraph. paragraph
+        ≡ paragraph_with interface.now sum.now output_line) }
 {
     let Some(names) = read_interface(alloc, interface.text.as_slice())? else {
         return Ok(None);
@@ -156,8 +158,9 @@ pub fn read_paragraph(alloc: Global, lines: &[Line]) -> Result<Option<Paragraph>
     }
 }
 
-/// Whether lines are a paragraph of the form: `int`; `f(int p, int q, ..)`; `CODE:`; `RETVAL = T + T + ..;`; `OUTPUT:`;
-/// `RETVAL`; and empty lines. There are one or more parameters and 1 to 32 terms, which are parameters and decimal literals.
+/// Whether lines are a paragraph of the form: `int`; `f(int p, int q, ..)`; `CODE:`; `RETVAL = T +
+/// T + ..;`; `OUTPUT:`; `RETVAL`; and empty lines. There are one or more parameters and 1 to 32
+/// terms, which are parameters and decimal literals.
 pub fn is_sum_xsub(alloc: Global, lines: &[Line]) -> Result<bool, Memory>
     ensures { IfOk result (λ is. is ≡ is_sum_paragraph lines.now) }
 {

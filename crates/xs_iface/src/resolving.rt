@@ -8,12 +8,14 @@ use crate::paragraph::Paragraph;
 use crate::terms::read_terms;
 use crate::xsub::{Param, Xsub};
 use std::alloc::Global;
+use xs_base::fault_codes::{PARAMETER_TWICE, TOO_MANY_PARAMETERS};
 use xs_base::{Bytes, Fault, FileOf, Items, Memory, Refuse, is_among_names};
 
 /// How many parameters an XSUB may have.
 pub const MOST_PARAMS: usize = 64;
 
-// The fault of a parameter behind others: its name is that of one of them, or they are as many as may be.
+// The fault of a parameter after others: its name is that of one of them, or they are as many as
+// may be.
 fn param_fault(
     alloc: Global,
     line: u32,
@@ -23,9 +25,9 @@ fn param_fault(
     ensures { IfOk result (λ fault. fault ≡ param_fault line before.now name.now) }
 {
     if is_among_names(before, name.as_slice()) {
-        Ok(Some(Fault::new(FileOf::Xs, line, 303, name.copy(alloc)?)))
+        Ok(Some(Fault::new(FileOf::Xs, line, PARAMETER_TWICE, name.copy(alloc)?)))
     } else if before.len() >= MOST_PARAMS {
-        Ok(Some(Fault::bare(alloc, FileOf::Xs, line, 304)))
+        Ok(Some(Fault::bare(alloc, FileOf::Xs, line, TOO_MANY_PARAMETERS)))
     } else {
         Ok(None)
     }
@@ -37,7 +39,7 @@ fn interface_fault(alloc: Global, paragraph: &Paragraph) -> Result<Option<Fault>
 {
     let params = paragraph.params.as_slice();
     for at in 0..params.len() {
-        let (before, _behind) = params.split_at(at);
+        let (before, _after) = params.split_at(at);
         let fault = param_fault(alloc, paragraph.line, before, &params[at])?;
         if fault.is_some() {
             return Ok(fault);

@@ -3,9 +3,10 @@ ghost use Rattle.std.specs.Prelude.{◌≡◌, IfOk};
 ghost use Rattle.xs_iface.specs.Scan.{chain_of};
 
 use std::alloc::Global;
-use xs_base::{ByteClass, Bytes, Items, Memory, after_word, cut_run};
+use xs_base::{ByteClass, Bytes, Items, Memory, cut_run, strip_prefix};
 
-/// The words in front of a text, as far as the divider stands between them, and what stands behind the last.
+/// The words in front of a text, as far as the divider stands between them, and what stands after
+/// the last.
 #[tactic(auto, unfolding(crate::specs::Scan::chain_of))]
 pub fn read_chain<'a>(
     alloc: Global,
@@ -17,11 +18,11 @@ pub fn read_chain<'a>(
     let mut words = Items::new(alloc);
     let mut rest = text;
     for _turn in 0..text.len() {
-        let (word, behind) = cut_run(ByteClass::Word, rest);
+        let (word, after) = cut_run(ByteClass::Word, rest);
         words.push(Bytes::from_slice(alloc, word)?)?;
-        match after_word(divider, behind) {
+        match strip_prefix(divider, after) {
             Some(next) => rest = next,
-            None => return Ok((words, behind)),
+            None => return Ok((words, after)),
         }
     }
     Ok((words, rest))

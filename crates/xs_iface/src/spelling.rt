@@ -3,13 +3,13 @@ ghost use Rattle.std.specs.Prelude.{◌≡◌, IfOk};
 ghost use Rattle.xs_iface.specs.Iface.{full_name, glue_name, perl_name, underscored};
 
 use std::alloc::Global;
-use xs_base::{Bytes, Memory, after_word};
+use xs_base::{Bytes, Memory, strip_prefix};
 
 /// The name for Perl, which is the name in C without the prefix.
 pub fn perl_name<'a>(prefix: &[u8], function: &'a [u8]) -> &'a [u8]
     ensures { result.now ≡ perl_name prefix.now function.now }
 {
-    after_word(prefix, function).unwrap_or(function)
+    strip_prefix(prefix, function).unwrap_or(function)
 }
 
 /// A package name as a part of a C name: each `:` is written `_`.

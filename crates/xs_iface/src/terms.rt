@@ -7,7 +7,7 @@ ghost use Rattle.xs_iface.specs.Paragraph.{is_literal, is_term, literal_of, term
 use crate::xsub::Term;
 use std::alloc::Global;
 use xs_base::{
-    ByteClass, Bytes, Items, Memory, begins_with_class, digits_value, is_among_names, is_decimal,
+    ByteClass, Bytes, Items, Memory, digits_value, is_among_names, is_decimal, starts_with_class,
 };
 
 /// The greatest `int`.
@@ -33,7 +33,7 @@ fn read_literal(word: &[u8]) -> Option<u32>
 fn is_literal(word: &[u8]) -> bool
     ensures { result ≡ is_literal word.now }
 {
-    begins_with_class(ByteClass::Digit, word) && is_decimal(word)
+    starts_with_class(ByteClass::Digit, word) && is_decimal(word)
 }
 
 // Whether a word is a term: the name of a parameter, or a literal.
@@ -58,7 +58,7 @@ fn place_of(params: &[Bytes], word: &[u8]) -> Option<usize>
 }
 
 // What a term says.
-#[tactic(auto, using(crate::proofs::Places::place_is_small))]
+#[tactic(auto, using(crate::proofs::SmallIndexes::place_is_small))]
 fn read_term(params: &[Bytes], word: &[u8]) -> Term
     requires { length params.now ≤ 64 }
     ensures { result ≡ term_of params.now word.now }

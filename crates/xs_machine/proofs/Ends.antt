@@ -12,17 +12,19 @@ use Rattle.xs_api.specs.declared.api.Abrupt.TheVariants.{Croaks, Traps, Spent}
 use Rattle.xs_api.specs.declared.api.Operand.{Operand}
 use Rattle.xs_api.specs.declared.api.Operand.TheVariants.{Unset, Num, Scalar, Void}
 use Rattle.xs_api.specs.declared.stacks.Depths.{Depths}
+use Rattle.xs_perlapi.specs.declared.row.Row.TheVariants.{XsEnd}
 use Rattle.xs_ccheck.specs.Functions.{function_at}
-use Rattle.xs_ccheck.specs.Tree.{XsEnd, Tree, Literal, Variable, ItemCount, Assign, Binary, Convert, ApiRow, Block, If, Forget, Declare, NoTrees, MoreTrees, tree_count, Function, Code}
+use Rattle.xs_ccheck.specs.TypedTree.{Tree, Literal, Variable, ItemCount, Assign, Binary, Convert, ApiRow, CroakUsage, Register, Block, If, Forget, Declare, NoTrees, MoreTrees, tree_count, Function, Code}
 use Rattle.xs_api.specs.World.{World, Swept, Clean, Dirty, depths_of}
-use Rattle.xs_api.specs.Effects.{Prims, Effect, Gives, Ends}
-use Rattle.xs_machine.specs.State.{State, Out, Done, Stop, tick, lift, read_value, assigned, write_var, assign_as, given, calculate, item_count, operate, convert, truth_of}
-use Rattle.xs_api.specs.declared.stacks.TheConstants.{MOST_ITEMS}
-use Rattle.xs_api.specs.Rows.{counted_rows}
+use Rattle.xs_api.specs.Effects.{Effect, Gives, Ends}
+use Rattle.xs_machine.specs.Dispatch.{Prims}
+use Rattle.xs_machine.specs.MachineState.{State, Out, Done, Stop, tick, lift, read_value, assigned, write_var, assign_as, given, calculate, item_count, operate, convert, truth_of}
+use Rattle.xs_api.specs.Limits.{most_items}
+use Rattle.xs_machine.specs.Dispatch.{counted_rows}
 use Rattle.xs_machine.specs.Cmean.{meaning}
-use Rattle.xs_machine.specs.Machine.{Work, DoTree, DoTrees, DoBlock, SetVar, Operate, ConvertTop, DoRow, Branch, ForgetTop, DropTop, Enter, Leave, Mach, taken, undefined_text, run_on, halt, on_top, unwind, at_leave, swept_to, land, fall_off, branch_on, entered, enter, act_tree, act, step_at, step, steps, tree_size, all_size, entry_size, left, run, call_meaning, call_over, is_over, begun_state, unless_barred}
+use Rattle.xs_machine.specs.Machine.{Work, DoTree, DoTrees, DoBlock, SetVar, Operate, ConvertTop, DoRow, Branch, ForgetTop, DropTop, Enter, Leave, Mach, popped, undefined_text, run_on, halt, on_top, unwind, at_leave, swept_to, land, fall_off, branch_on, entered, enter, act_tree, act, step_at, step, steps, tree_size, all_size, entry_size, left, run, call_meaning, call_over, is_over, begun_state, unless_barred}
 use Rattle.xs_machine.specs.declared.machine.Outcome.TheVariants as outcome
-use Rattle.xs_machine.specs.Law.{CallMeans, RunEnds}
+use Rattle.xs_machine.specs.Laws.{CallMeans, RunEnds}
 use Rattle.xs_machine.proofs.Follows.{Comes, comes_on, comes_by, comes_at, tree_follows}
 
 -- how much the entry of a function brings
@@ -105,15 +107,19 @@ module _ {S : Type 0} (P : Prims S) (code : Code) where
   over_left : (m : Mach S) (t size : ℕ) → Below m t 0 → 0 < size → left code m < t * most + size
   over_left m t size b h = less_left m t 0 size b h
 
-  -- an outcome of a part, with the work behind it
-  land_left : (k : List Work) (vs : List Operand) (o : Out S Operand) (t size : ℕ) → turns_of o ≤ t → all_size k < size → left code (land P ◌∷◌ k vs o) < t * most + size
+  -- an outcome of a part, with the work after it
+  land_left : (k : List Work) (vs : List Operand) (o : Out S Operand) (t size : ℕ) → turns_of o ≤ t → all_size k < size
+      → left code (land P ◌∷◌ k vs o) < t * most + size
   land_left k vs (Done v σ) t size h less = less_left (run_on k (v ∷ vs) σ) t (all_size k) size (record { turns = h; size = omega arith }) less
-  land_left k vs (Stop a σ) t size h less = let b = unwind_below a k σ in over_left (unwind P a k σ) t size (record { turns = omega (arith, b.turns, h); size = b.size }) (omega (arith, less))
+  land_left k vs (Stop a σ) t size h less = let b =
+      unwind_below a k σ in over_left (unwind P a k σ) t size (record { turns = omega (arith, b.turns, h); size = b.size }) (omega (arith, less))
 
-  simple : (k k1 : List Work) (vs : List Operand) (σ σ1 : State S) → σ1.turns ≤ σ.turns → all_size k1 < all_size k → left code (run_on k1 vs σ1) < σ.turns * most + all_size k
+  simple : (k k1 : List Work) (vs : List Operand) (σ σ1 : State S) → σ1.turns ≤ σ.turns → all_size k1 < all_size k
+      → left code (run_on k1 vs σ1) < σ.turns * most + all_size k
   simple k k1 vs σ σ1 ht hs = less_left (run_on k1 vs σ1) σ.turns (all_size k1) (all_size k) (record { turns = ht; size = omega arith }) hs
 
-  top_left : (vs : List Operand) (σ : State S) (go : Operand → List Operand → Mach S) (size : ℕ) → 0 < size → ((v : Operand) (rest : List Operand) → left code (go v rest) < σ.turns * most + size) → left code (on_top vs σ go) < σ.turns * most + size
+  top_left : (vs : List Operand) (σ : State S) (go : Operand → List Operand → Mach S) (size : ℕ) → 0 < size
+      → ((v : Operand) (rest : List Operand) → left code (go v rest) < σ.turns * most + size) → left code (on_top vs σ go) < σ.turns * most + size
   top_left [] σ go size h f = over_left (on_top [] σ go) σ.turns size (record { turns = omega arith; size = omega arith }) h
   top_left (v ∷ vs) σ go size h f = f v vs
 
@@ -148,31 +154,41 @@ module _ {S : Type 0} (P : Prims S) (code : Code) where
   operate_turns op (Scalar p) v σ = omega arith
   operate_turns op Void v σ = omega arith
 
-  branch_left : (b : Option Bool) (x y : Tree) (k : List Work) (vs : List Operand) (σ : State S) → left code (branch_on P b x y k vs σ) < σ.turns * most + all_size (Branch x y ∷ k)
+  branch_left : (b : Option Bool) (x y : Tree) (k : List Work) (vs : List Operand) (σ : State S)
+      → left code (branch_on P b x y k vs σ) < σ.turns * most + all_size (Branch x y ∷ k)
   branch_left None x y k vs σ = over_left _ σ.turns (all_size (Branch x y ∷ k)) (unwind_below (Traps trap.Kind) k σ) (omega arith)
   branch_left (Some true) x y k vs σ = simple (Branch x y ∷ k) (DoTree x ∷ k) vs σ σ (omega arith) (omega arith)
   branch_left (Some false) x y k vs σ = simple (Branch x y ∷ k) (DoTree y ∷ k) vs σ σ (omega arith) (omega arith)
 
-  enter_turn : (turns : ℕ) (f : Function) (k : List Work) (σ : State S) (size : ℕ) → σ.turns ≡ turns → tree_size f.body + 1 ≤ most → all_size k < size → left code (tick turns (unwind P Spent k σ) (λ t. run_on (DoTree f.body ∷ DropTop ∷ k) [] (entered f t σ))) < turns * most + size
-  enter_turn zero f k σ size e h less = let b = unwind_below Spent k σ in over_left (unwind P Spent k σ) zero size (record { turns = omega (arith, b.turns, e); size = b.size }) (omega (arith, less))
+  enter_turn : (turns : ℕ) (f : Function) (k : List Work) (σ : State S) (size : ℕ) → σ.turns ≡ turns → tree_size f.body + 1 ≤ most → all_size k < size
+      → left code (tick turns (unwind P Spent k σ) (λ t. run_on (DoTree f.body ∷ DropTop ∷ k) [] (entered f t σ))) < turns * most + size
+  enter_turn zero f k σ size e h less = let b =
+      unwind_below Spent k σ in over_left (unwind P Spent k σ) zero size (record { turns = omega (arith, b.turns, e); size = b.size }) (omega (arith, less))
   enter_turn (suc t) f k σ size e h less = falls_turn t most size (all_size (DoTree f.body ∷ DropTop ∷ k)) (omega (arith, h, less))
 
-  enter_left : (f : Option Function) (k : List Work) (σ : State S) (size : ℕ) → option_size f ≤ most → all_size k < size → left code (enter P f k σ) < σ.turns * most + size
+  enter_left : (f : Option Function) (k : List Work) (σ : State S) (size : ℕ) → option_size f ≤ most → all_size k < size
+      → left code (enter P f k σ) < σ.turns * most + size
   enter_left None k σ size h less = over_left _ σ.turns size (unwind_below (Croaks (undefined_text σ.frame.called)) k σ) (omega (arith, less))
   enter_left (Some f) k σ size h less = enter_turn σ.turns f k σ size refl h less
 
   fall_left : (d : Depths) (o : Out S Operand) (t size : ℕ) → turns_of o ≤ t → 0 < size → left code (fall_off P d o) < t * most + size
   fall_left d (Done v σ) t size h less = over_left (fall_off P d (Done v σ)) t size (record { turns = h; size = omega arith }) less
-  fall_left d (Stop a σ) t size h less = let b = leave_below a d σ in over_left (at_leave P a d σ) t size (record { turns = omega (arith, b.turns, h); size = b.size }) less
+  fall_left d (Stop a σ) t size h less = let b =
+      leave_below a d σ in over_left (at_leave P a d σ) t size (record { turns = omega (arith, b.turns, h); size = b.size }) less
 
   tree_left : (t : Tree) (k : List Work) (vs : List Operand) (σ : State S) → left code (act_tree P t k vs σ) < σ.turns * most + all_size (DoTree t ∷ k)
   tree_left (Literal n) k vs σ = simple (DoTree (Literal n) ∷ k) k (Num n ∷ vs) σ σ (omega arith) (omega arith)
-  tree_left (Variable x) k vs σ = land_left k vs (read_value (slice_index_or σ.vars x Unset) σ) σ.turns (all_size (DoTree (Variable x) ∷ k)) (read_turns _ σ) (omega arith)
+  tree_left (Variable x) k vs σ = land_left k vs (read_value (slice_index_or σ.vars x Unset) σ) σ.turns (all_size (DoTree (Variable x) ∷ k)) (read_turns _ σ)
+      (omega arith)
   tree_left ItemCount k vs σ = simple (DoTree ItemCount ∷ k) k (item_count σ ∷ vs) σ σ (omega arith) (omega arith)
   tree_left (Assign x t e) k vs σ = simple (DoTree (Assign x t e) ∷ k) (DoTree e ∷ SetVar x t ∷ k) vs σ σ (omega arith) (omega arith)
   tree_left (Binary op a b) k vs σ = simple (DoTree (Binary op a b) ∷ k) (DoTree a ∷ DoTree b ∷ Operate op ∷ k) vs σ σ (omega arith) (omega arith)
   tree_left (Convert kind e) k vs σ = simple (DoTree (Convert kind e) ∷ k) (DoTree e ∷ ConvertTop kind ∷ k) vs σ σ (omega arith) (omega arith)
   tree_left (ApiRow r xs) k vs σ = simple (DoTree (ApiRow r xs) ∷ k) (DoTrees xs ∷ DoRow r (tree_count xs) ∷ k) vs σ σ (omega arith) (omega arith)
+  tree_left (CroakUsage text) k vs σ = land_left k vs (lift (P.croak_usage text σ.frame σ.store) σ) σ.turns (all_size (DoTree (CroakUsage text) ∷ k))
+      (lift_turns (P.croak_usage text σ.frame σ.store) σ) (omega arith)
+  tree_left (Register name f) k vs σ = land_left k vs (lift (P.register name f σ.frame σ.store) σ) σ.turns (all_size (DoTree (Register name f) ∷ k))
+      (lift_turns (P.register name f σ.frame σ.store) σ) (omega arith)
   tree_left (Block ts) k vs σ = simple (DoTree (Block ts) ∷ k) (DoBlock ts ∷ k) vs σ σ (omega arith) (omega arith)
   tree_left (If e a b) k vs σ = simple (DoTree (If e a b) ∷ k) (DoTree e ∷ Branch a b ∷ k) vs σ σ (omega arith) (omega arith)
   tree_left (Forget e) k vs σ = simple (DoTree (Forget e) ∷ k) (DoTree e ∷ ForgetTop ∷ k) vs σ σ (omega arith) (omega arith)
@@ -184,17 +200,25 @@ module _ {S : Type 0} (P : Prims S) (code : Code) where
   act_left (DoTrees (MoreTrees t ts)) k vs σ = simple (DoTrees (MoreTrees t ts) ∷ k) (DoTree t ∷ DoTrees ts ∷ k) vs σ σ (omega arith) (omega arith)
   act_left (DoBlock NoTrees) k vs σ = simple (DoBlock NoTrees ∷ k) k (Void ∷ vs) σ σ (omega arith) (omega arith)
   act_left (DoBlock (MoreTrees t ts)) k vs σ = simple (DoBlock (MoreTrees t ts) ∷ k) (DoTree t ∷ DropTop ∷ DoBlock ts ∷ k) vs σ σ (omega arith) (omega arith)
-  act_left (SetVar x t) k vs σ = top_left vs σ _ (all_size (SetVar x t ∷ k)) (omega arith) (λ v rest. land_left k rest (assign_as (assigned t v) x σ) σ.turns (all_size (SetVar x t ∷ k)) (assign_turns (assigned t v) x σ) (omega arith))
+  act_left (SetVar x t) k vs σ =
+      top_left vs σ _ (all_size (SetVar x t ∷ k)) (omega arith) (λ v rest. land_left k rest (assign_as (assigned t v) x σ) σ.turns (all_size (SetVar x t ∷ k))
+      (assign_turns (assigned t v) x σ) (omega arith))
   act_left (Operate op) k vs σ =
       top_left vs σ _ (all_size (Operate op ∷ k)) (omega arith) (λ u rest.
-      top_left rest σ _ (all_size (Operate op ∷ k)) (omega arith) (λ v rest1. land_left k rest1 (operate op v u σ) σ.turns (all_size (Operate op ∷ k)) (operate_turns op v u σ) (omega arith)))
-  act_left (ConvertTop kind) k vs σ = top_left vs σ _ (all_size (ConvertTop kind ∷ k)) (omega arith) (λ v rest. land_left k rest (convert kind v σ) σ.turns (all_size (ConvertTop kind ∷ k)) (given_turns _ σ) (omega arith))
-  act_left (DoRow r n) k vs σ = land_left k (taken n [] vs).1 (lift (P.row r (taken n [] vs).0 σ.frame σ.store) σ) σ.turns (all_size (DoRow r n ∷ k)) (lift_turns (P.row r (taken n [] vs).0 σ.frame σ.store) σ) (omega arith)
+      top_left rest σ _ (all_size (Operate op ∷ k)) (omega arith) (λ v rest1. land_left k rest1 (operate op v u σ) σ.turns (all_size (Operate op ∷ k))
+      (operate_turns op v u σ) (omega arith)))
+  act_left (ConvertTop kind) k vs σ =
+      top_left vs σ _ (all_size (ConvertTop kind ∷ k)) (omega arith) (λ v rest. land_left k rest (convert kind v σ) σ.turns (all_size (ConvertTop kind ∷ k))
+      (given_turns _ σ) (omega arith))
+  act_left (DoRow r n) k vs σ = land_left k (popped n [] vs).1 (lift (P.row r (popped n [] vs).0 σ.frame σ.store) σ) σ.turns (all_size (DoRow r n ∷ k))
+      (lift_turns (P.row r (popped n [] vs).0 σ.frame σ.store) σ) (omega arith)
   act_left (Branch a b) k vs σ = top_left vs σ _ (all_size (Branch a b ∷ k)) (omega arith) (λ v rest. branch_left (truth_of v) a b k rest σ)
-  act_left ForgetTop k vs σ = top_left vs σ _ (all_size (ForgetTop ∷ k)) (omega arith) (λ v rest. simple (ForgetTop ∷ k) k (Void ∷ rest) σ σ (omega arith) (omega arith))
+  act_left ForgetTop k vs σ =
+      top_left vs σ _ (all_size (ForgetTop ∷ k)) (omega arith) (λ v rest. simple (ForgetTop ∷ k) k (Void ∷ rest) σ σ (omega arith) (omega arith))
   act_left DropTop k vs σ = top_left vs σ _ (all_size (DropTop ∷ k)) (omega arith) (λ v rest. simple (DropTop ∷ k) k rest σ σ (omega arith) (omega arith))
   act_left (Enter f) k vs σ = enter_left (function_at code f) k σ (all_size (Enter f ∷ k)) (callee_size code f) (omega arith)
-  act_left (Leave d) k vs σ = fall_left d (lift (P.row XsEnd [] σ.frame σ.store) σ) σ.turns (all_size (Leave d ∷ k)) (lift_turns (P.row XsEnd [] σ.frame σ.store) σ) (omega arith)
+  act_left (Leave d) k vs σ =
+      fall_left d (lift (P.row XsEnd [] σ.frame σ.store) σ) σ.turns (all_size (Leave d ∷ k)) (lift_turns (P.row XsEnd [] σ.frame σ.store) σ) (omega arith)
 
   step_of_pending : (k : List Work) (m : Mach S) → m.pending ≡ k → (k ≡ [] → ⊥) → left code (step P code m) < left code m
   step_of_pending [] m e h = absurd (h refl)
@@ -226,7 +250,8 @@ module _ {S : Type 0} (P : Prims S) (code : Code) where
   ends_pending : (k : List Work) (n : ℕ) (m : Mach S) → m.pending ≡ k → left code m ≤ n → (steps P code n m).pending ≡ []
   ends_pending [] n m e h = ap (λ (x : Mach S). x.pending) (stays n m e) ∙ e
   ends_pending (w ∷ k) zero m e h = let less = step_of_pending (w ∷ k) m e (λ q. cc) in absurd (omega (arith, h, less))
-  ends_pending (w ∷ k) (suc n) m e h = let less = step_of_pending (w ∷ k) m e (λ q. cc) in ends_pending (step P code m).pending n (step P code m) refl (omega (arith, h, less))
+  ends_pending (w ∷ k) (suc n) m e h = let less =
+      step_of_pending (w ∷ k) m e (λ q. cc) in ends_pending (step P code m).pending n (step P code m) refl (omega (arith, h, less))
 
   -- as many steps as are left end a run
   pub ends : (m : Mach S) → (steps P code (left code m) m).pending ≡ []
@@ -256,12 +281,14 @@ module _ {S : Type 0} (P : Prims S) (code : Code) where
   over_ended d (Done v σ) = fall_ended d (lift (P.row XsEnd [] σ.frame σ.store) σ)
   over_ended d (Stop a σ) = leave_ended a d σ
 
-  -- behind a function's body
+  -- after a function's body
   body_over : (m : Mach S) (d : Depths) (o : Out S Operand) → Comes P code m (land P ◌∷◌ (DropTop ∷ Leave d ∷ []) [] o) → Comes P code m (call_over P code d o)
   body_over m d (Done v σ) c = comes_by P code m _ _ c (comes_on P code _ _ (comes_on P code _ _ (comes_at P code _ _ refl)))
   body_over m d (Stop a σ) c = c
 
-  ticks : (turns : ℕ) (f : Function) (d : Depths) (σ : State S) → Comes P code (tick turns (unwind P Spent (Leave d ∷ []) σ) (λ t. run_on (DoTree f.body ∷ DropTop ∷ Leave d ∷ []) [] (entered f t σ))) (call_over P code d (tick turns (Stop Spent σ) (λ t. meaning P f.body (entered f t σ))))
+  ticks : (turns : ℕ) (f : Function) (d : Depths) (σ : State S)
+      → Comes P code (tick turns (unwind P Spent (Leave d ∷ []) σ) (λ t. run_on (DoTree f.body ∷ DropTop ∷ Leave d ∷ []) [] (entered f t σ)))
+      (call_over P code d (tick turns (Stop Spent σ) (λ t. meaning P f.body (entered f t σ))))
   ticks zero f d σ = comes_at P code _ _ refl
   ticks (suc t) f d σ = body_over _ d (meaning P f.body (entered f t σ)) (tree_follows P code f.body (DropTop ∷ Leave d ∷ []) [] (entered f t σ))
 
@@ -270,7 +297,8 @@ module _ {S : Type 0} (P : Prims S) (code : Code) where
   enters (Some f) d σ = ticks σ.turns f d σ
 
   -- the steps of a call come to where its meaning says
-  pub call_comes : (f : Option ℕ) (d : Depths) (σ : State S) → Comes P code (run_on (Enter f ∷ Leave d ∷ []) [] σ) (call_over P code d (call_meaning P code (function_at code f) σ))
+  pub call_comes : (f : Option ℕ) (d : Depths) (σ : State S)
+      → Comes P code (run_on (Enter f ∷ Leave d ∷ []) [] σ) (call_over P code d (call_meaning P code (function_at code f) σ))
   call_comes f d σ = comes_on P code _ _ (enters (function_at code f) d σ)
 
   -- a run that is over stands where it comes
@@ -279,7 +307,9 @@ module _ {S : Type 0} (P : Prims S) (code : Code) where
       let at = c.by 0 in
       one_end (left code m) at.0 m (ends m) (ap (λ (x : Mach S). x.pending) at.1 ∙ e) ∙ at.1
 
-  pub run_over : (f : Option ℕ) (d : Depths) (σ : State S) → steps P code (left code (run_on (Enter f ∷ Leave d ∷ []) [] σ)) (run_on (Enter f ∷ Leave d ∷ []) [] σ) ≡ call_over P code d (call_meaning P code (function_at code f) σ)
+  pub run_over : (f : Option ℕ) (d : Depths) (σ : State S)
+      → steps P code (left code (run_on (Enter f ∷ Leave d ∷ []) [] σ)) (run_on (Enter f ∷ Leave d ∷ []) [] σ)
+      ≡ call_over P code d (call_meaning P code (function_at code f) σ)
   run_over f d σ = run_is _ _ (call_comes f d σ) (over_ended d (call_meaning P code (function_at code f) σ))
 
 at_end : (code : Code) (over : Bool) (m begun met : Mach World) → m.pending ≡ [] → run code begun ≡ met → run code (cond over m begun) ≡ cond over m met
@@ -287,9 +317,11 @@ at_end code true m begun met idle e = stays counted_rows code (left code m) m id
 at_end code false m begun met idle e = e
 
 -- what bars a call bars its run
-unless_barred_run : (code : Code) (args : List ℕ) (m begun met : Mach World) → m.pending ≡ [] → run code begun ≡ met → run code (unless_barred args m begun) ≡ unless_barred args m met
+unless_barred_run : (code : Code) (args : List ℕ) (m begun met : Mach World) → m.pending ≡ [] → run code begun ≡ met
+    → run code (unless_barred args m begun) ≡ unless_barred args m met
 unless_barred_run code args m begun met idle e =
-    at_end code (is_over m.stopped) m _ _ idle (at_end code (nat_lt MOST_ITEMS (m.state.store.top + length args)) (halt (outcome.Trapped trap.Large) m.state) begun met refl e)
+    at_end code (is_over m.stopped) m _ _ idle
+    (at_end code (nat_lt most_items (m.state.store.top + length args)) (halt (outcome.Trapped trap.Large) m.state) begun met refl e)
 
 pub call_means : (code : Code) → CallMeans code
 call_means code sub f args turns m idle =

@@ -4,9 +4,9 @@ use Rattle.xs_values.specs.declared.trap.Trap.TheVariants as trap
 use Rattle.xs_api.specs.declared.api.Abrupt.TheVariants.{Traps}
 use Rattle.xs_api.specs.declared.api.Operand.{Operand}
 use Rattle.xs_api.specs.declared.api.Operand.TheVariants.{Unset, Num, Void}
-use Rattle.xs_ccheck.specs.Tree.{Tree, Literal, Variable, ItemCount, Assign, Binary, Convert, ApiRow, Block, If, Forget, Declare, Trees, NoTrees, MoreTrees}
-use Rattle.xs_api.specs.Effects.{Prims}
-use Rattle.xs_machine.specs.State.{State, Out, Done, Stop, ◌>>=◌, lift, read_var, write_var, assigned, assign_as, item_count, operate, convert, truth_of}
+use Rattle.xs_ccheck.specs.TypedTree.{Tree, Literal, Variable, ItemCount, Assign, Binary, Convert, ApiRow, CroakUsage, Register, Block, If, Forget, Declare, Trees, NoTrees, MoreTrees}
+use Rattle.xs_machine.specs.Dispatch.{Prims}
+use Rattle.xs_machine.specs.MachineState.{State, Out, Done, Stop, ◌>>=◌, lift, read_var, write_var, assigned, assign_as, item_count, operate, convert, truth_of}
 
 -- one of two runs, by a condition
 abbrev pub choose : {S A : Type 0} → Option Bool → State S → Out S A → Out S A → Out S A
@@ -25,15 +25,19 @@ module _ {S : Type 0} (P : Prims S) where
     meaning (Binary op a b) σ = meaning a σ >>= λ v σ1. meaning b σ1 >>= λ u σ2. operate op v u σ2
     meaning (Convert k e) σ = meaning e σ >>= λ v σ1. convert k v σ1
     meaning (ApiRow r xs) σ = meanings xs σ >>= λ vs σ1. lift (P.row r vs σ1.frame σ1.store) σ1
+    meaning (CroakUsage text) σ = lift (P.croak_usage text σ.frame σ.store) σ
+    meaning (Register name f) σ = lift (P.register name f σ.frame σ.store) σ
     meaning (Block ts) σ = meaning_all ts σ
-    meaning (If e a b) σ = meaning e σ >>= λ v σ1. choose (truth_of v) σ1 (meaning a σ1) (meaning b σ1)
+    meaning (If e a b) σ =
+        meaning e σ >>= λ v σ1. choose (truth_of v) σ1 (meaning a σ1) (meaning b σ1)
     meaning (Forget e) σ = meaning e σ >>= λ v σ1. Done Void σ1
     meaning (Declare x) σ = Done Void (write_var x Unset σ)
 
     -- the values of operands, from left to right
     pub meanings : Trees → State S → Out S (List Operand)
     meanings NoTrees σ = Done [] σ
-    meanings (MoreTrees t ts) σ = meaning t σ >>= λ v σ1. meanings ts σ1 >>= λ vs σ2. Done (v ∷ vs) σ2
+    meanings (MoreTrees t ts) σ =
+        meaning t σ >>= λ v σ1. meanings ts σ1 >>= λ vs σ2. Done (v ∷ vs) σ2
 
     -- statements in order
     pub meaning_all : Trees → State S → Out S Operand

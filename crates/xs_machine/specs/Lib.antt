@@ -1,5 +1,6 @@
-pub mod State
+pub mod Dispatch
+pub mod MachineState
 pub mod Cmean
 pub mod Machine
-pub mod Law
-pub mod Views
+pub mod Laws
+pub mod MachineViews

@@ -1,5 +1,5 @@
 -- The machine, which works through a list of pending work one step at a time.
-use Rattle.std.specs.Prelude.{ℕ, zero, suc, ◌+◌, ◌*◌, max, Bool, true, false, cond, nat_lt, List, [], ◌∷◌, ◌++◌, length, take, replicate, Option, Some, None, codes}
+use Rattle.std.specs.Prelude.{ℕ, zero, suc, ◌+◌, ◌*◌, max, Bool, true, false, if◌then◌else◌, nat_lt, List, [], ◌∷◌, ◌++◌, length, take, replicate, Option, Some, None, codes}
 use Rattle.xs_values.specs.declared.kind.Kind.{Kind}
 use Rattle.xs_values.specs.declared.operator.Op.{Op}
 use Rattle.xs_values.specs.declared.trap.Trap.TheVariants as trap
@@ -8,22 +8,24 @@ use Rattle.xs_api.specs.declared.api.Abrupt.TheVariants.{Returns, Croaks, Traps,
 use Rattle.xs_api.specs.declared.api.Frame.{Frame}
 use Rattle.xs_api.specs.declared.api.Operand.{Operand}
 use Rattle.xs_api.specs.declared.api.Operand.TheVariants.{Unset, Num, Void}
+use Rattle.xs_perlapi.specs.declared.row.Row.{Row}
+use Rattle.xs_perlapi.specs.declared.row.Row.TheVariants.{XsEnd}
 use Rattle.xs_ccheck.specs.declared.code.ValueType.{ValueType}
 use Rattle.xs_machine.specs.declared.machine.Outcome.{Outcome}
 use Rattle.xs_machine.specs.declared.machine.Outcome.TheVariants as outcome
 use Rattle.xs_api.specs.declared.stacks.Depths.{Depths}
 use Rattle.xs_ccheck.specs.Functions.{function_at, boot_at, name_of}
-use Rattle.xs_ccheck.specs.Tree.{Row, XsEnd, Tree, Literal, Variable, ItemCount, Assign, Binary, Convert, ApiRow, Block, If, Forget, Declare, Trees, NoTrees, MoreTrees, tree_count, Function, Code}
+use Rattle.xs_ccheck.specs.TypedTree.{Tree, Literal, Variable, ItemCount, Assign, Binary, Convert, ApiRow, CroakUsage, Register, Block, If, Forget, Declare, Trees, NoTrees, MoreTrees, tree_count, Function, Code}
 use Rattle.xs_api.specs.World.{World, Swept, Clean, Dirty, depths_of, new_cells, registered, sweep}
-use Rattle.xs_api.specs.Effects.{Prims}
-use Rattle.xs_machine.specs.State.{State, Out, Done, Stop, tick, lift, with_store, read_var, write_var, assigned, assign_as, item_count, operate, convert, truth_of}
-use Rattle.xs_api.specs.declared.stacks.TheConstants.{MOST_ITEMS}
-use Rattle.xs_api.specs.Rows.{counted_rows}
+use Rattle.xs_machine.specs.Dispatch.{Prims}
+use Rattle.xs_machine.specs.MachineState.{State, Out, Done, Stop, tick, lift, with_store, read_var, write_var, assigned, assign_as, item_count, operate, convert, truth_of}
+use Rattle.xs_api.specs.Limits.{most_items}
+use Rattle.xs_machine.specs.Dispatch.{counted_rows}
 use Rattle.xs_machine.specs.Cmean.{meaning}
 
--- A piece of pending work: a tree; operands; statements; what is done with the topmost operands; one of two trees; the entry of a
--- function by its number, None where no function has the name; and the end of an XS function, with the heights of the stacks at its
--- entry.
+-- A piece of pending work: a tree; operands; statements; what is done with the topmost operands;
+-- one of two trees; the entry of a function by its number, None where no function has the name; and
+-- the end of an XS function, with the heights of the stacks at its entry.
 pub data Work : Type 0 where
   DoTree : Tree → Work
   DoTrees : Trees → Work
@@ -38,8 +40,8 @@ pub data Work : Type 0 where
   Enter : Option ℕ → Work
   Leave : Depths → Work
 
--- The state of a run: the pending work with what is next at the front, the operands with the topmost at the front, what the run works
--- on, and how the work that ended last came to its end.
+-- The state of a run: the pending work with what is next at the front, the operands with the
+-- topmost at the front, what the run works on, and how the work that ended last came to its end.
 pub record Mach (S : Type 0) : Type 0 where
   pub pending : List Work
   pub operands : List Operand
@@ -53,10 +55,10 @@ outcome_of (Traps t) = outcome.Trapped t
 outcome_of Spent = outcome.Spent
 
 -- the n topmost operands in the order in which they came, and the others
-abbrev pub taken : ℕ → List Operand → List Operand → List Operand × List Operand
-taken zero acc vs = (acc, vs)
-taken (suc n) acc [] = (acc, [])
-taken (suc n) acc (v ∷ vs) = taken n (v ∷ acc) vs
+abbrev pub popped : ℕ → List Operand → List Operand → List Operand × List Operand
+popped zero acc vs = (acc, vs)
+popped (suc n) acc [] = (acc, [])
+popped (suc n) acc (v ∷ vs) = popped n (v ∷ acc) vs
 
 -- the croak for a name that no function has
 abbrev pub undefined_text : List ℕ → List ℕ
@@ -72,7 +74,7 @@ module _ {S : Type 0} where
 
   -- the variables and the turns at the entry of a function
   abbrev pub entered : Function → ℕ → State S → State S
-  entered f turns σ = record { vars = replicate f.slots Unset; frame = σ.frame; store = σ.store; turns = turns }
+  entered f turns σ = record σ { vars = replicate f.slots Unset; turns = turns }
 
   -- where operands are missing
   abbrev pub short_of : State S → Mach S
@@ -82,13 +84,14 @@ module _ {S : Type 0} where
   on_top [] σ go = short_of σ
   on_top (v ∷ vs) σ go = go v vs
 
-  -- the end of a sweep, behind a croak
+  -- the end of a sweep, after a croak
   abbrev pub swept_to : List ℕ → Swept S → State S → Mach S
   swept_to text (Clean s) σ = halt (outcome.Croaked text) (with_store s σ)
   swept_to text (Dirty t s) σ = halt (outcome.Trapped t) (with_store s σ)
 
 module _ {S : Type 0} (P : Prims S) where
-  -- A run leaves an XS function: a croak frees the temporaries that were made since its entry and cuts the stacks.
+  -- A run leaves an XS function: a croak frees the temporaries that were made since its entry and
+  -- cuts the stacks.
   abbrev pub at_leave : Abrupt → Depths → State S → Mach S
   at_leave (Croaks text) d σ = swept_to text (P.cut d σ.store) σ
   at_leave a d σ = halt (outcome_of a) σ
@@ -110,7 +113,8 @@ module _ {S : Type 0} (P : Prims S) where
   unwind a (Enter f ∷ k) σ = unwind a k σ
 
   -- where a run stands once its part is over: put says what the part leaves on the operands
-  abbrev pub land : {A : Type 0} → (A → List Operand → List Operand) → List Work → List Operand → Out S A → Mach S
+  abbrev pub land : {A : Type 0} → (A → List Operand → List Operand) → List Work → List Operand
+      → Out S A → Mach S
   land put k vs (Done a σ) = run_on k (put a vs) σ
   land put k vs (Stop a σ) = unwind a k σ
 
@@ -127,7 +131,9 @@ module _ {S : Type 0} (P : Prims S) where
   -- the entry of a function, which uses a turn; a name that no function has uses none
   abbrev pub enter : Option Function → List Work → State S → Mach S
   enter None k σ = unwind (Croaks (undefined_text σ.frame.called)) k σ
-  enter (Some f) k σ = tick σ.turns (unwind Spent k σ) (λ turns. run_on (DoTree f.body ∷ DropTop ∷ k) [] (entered f turns σ))
+  enter (Some f) k σ =
+      tick σ.turns (unwind Spent k σ) (λ turns. run_on (DoTree f.body ∷ DropTop ∷ k) []
+      (entered f turns σ))
 
   -- one tree
   abbrev pub act_tree : Tree → List Work → List Operand → State S → Mach S
@@ -138,6 +144,10 @@ module _ {S : Type 0} (P : Prims S) where
   act_tree (Binary op a b) k vs σ = run_on (DoTree a ∷ DoTree b ∷ Operate op ∷ k) vs σ
   act_tree (Convert kind e) k vs σ = run_on (DoTree e ∷ ConvertTop kind ∷ k) vs σ
   act_tree (ApiRow r xs) k vs σ = run_on (DoTrees xs ∷ DoRow r (tree_count xs) ∷ k) vs σ
+  act_tree (CroakUsage text) k vs σ =
+      land ◌∷◌ k vs (lift (P.croak_usage text σ.frame σ.store) σ)
+  act_tree (Register name f) k vs σ =
+      land ◌∷◌ k vs (lift (P.register name f σ.frame σ.store) σ)
   act_tree (Block ts) k vs σ = run_on (DoBlock ts ∷ k) vs σ
   act_tree (If e a b) k vs σ = run_on (DoTree e ∷ Branch a b ∷ k) vs σ
   act_tree (Forget e) k vs σ = run_on (DoTree e ∷ ForgetTop ∷ k) vs σ
@@ -152,9 +162,11 @@ module _ {S : Type 0} (P : Prims S) where
     act (DoBlock NoTrees) k vs σ = run_on k (Void ∷ vs) σ
     act (DoBlock (MoreTrees t ts)) k vs σ = run_on (DoTree t ∷ DropTop ∷ DoBlock ts ∷ k) vs σ
     act (SetVar x t) k vs σ = on_top vs σ (λ v rest. land ◌∷◌ k rest (assign_as (assigned t v) x σ))
-    act (Operate op) k vs σ = on_top vs σ (λ u rest. on_top rest σ (λ v rest1. land ◌∷◌ k rest1 (operate op v u σ)))
+    act (Operate op) k vs σ =
+        on_top vs σ (λ u rest. on_top rest σ (λ v rest1. land ◌∷◌ k rest1 (operate op v u σ)))
     act (ConvertTop kind) k vs σ = on_top vs σ (λ v rest. land ◌∷◌ k rest (convert kind v σ))
-    act (DoRow r n) k vs σ = land ◌∷◌ k (taken n [] vs).1 (lift (P.row r (taken n [] vs).0 σ.frame σ.store) σ)
+    act (DoRow r n) k vs σ =
+        land ◌∷◌ k (popped n [] vs).1 (lift (P.row r (popped n [] vs).0 σ.frame σ.store) σ)
     act (Branch a b) k vs σ = on_top vs σ (λ v rest. branch_on (truth_of v) a b k rest σ)
     act ForgetTop k vs σ = on_top vs σ (λ v rest. run_on k (Void ∷ rest) σ)
     act DropTop k vs σ = on_top vs σ (λ v rest. run_on k rest σ)
@@ -173,10 +185,11 @@ module _ {S : Type 0} (P : Prims S) where
     steps zero m = m
     steps (suc n) m = steps n (step m)
 
-    -- What the call of a function means: its body's meaning, behind the turn that its entry uses.
+    -- What the call of a function means: its body's meaning, after the turn that its entry uses.
     abbrev pub call_meaning : Option Function → State S → Out S Operand
     call_meaning None σ = Stop (Croaks (undefined_text σ.frame.called)) σ
-    call_meaning (Some f) σ = tick σ.turns (Stop Spent σ) (λ turns. meaning P f.body (entered f turns σ))
+    call_meaning (Some f) σ =
+        tick σ.turns (Stop Spent σ) (λ turns. meaning P f.body (entered f turns σ))
 
     -- where the machine stands once a call is over
     abbrev pub call_over : Depths → Out S Operand → Mach S
@@ -194,6 +207,8 @@ abbrev mutual
   tree_size (Binary op a b) = tree_size a + tree_size b + 2
   tree_size (Convert kind e) = tree_size e + 2
   tree_size (ApiRow r xs) = trees_size xs + 2
+  tree_size (CroakUsage text) = 1
+  tree_size (Register name f) = 1
   tree_size (Block ts) = trees_size ts + 1
   tree_size (If e a b) = tree_size e + (tree_size a + tree_size b) + 2
   tree_size (Forget e) = tree_size e + 2
@@ -234,7 +249,15 @@ left code m = m.state.turns * entry_size code.functions + all_size m.pending
 
 -- the runner's world: the immortals alone, empty stacks and no name registered
 abbrev pub new_world : World
-new_world = record { cells = new_cells; args = []; top = 0; marks = []; temps = []; scopes = []; names = [] }
+new_world = record {
+  cells = new_cells;
+  args = [];
+  top = 0;
+  marks = [];
+  temps = [];
+  scopes = [];
+  names = [];
+}
 
 -- the frame of a function that is called under a name, before its entry
 abbrev pub frame_of : List ℕ → Frame
@@ -242,7 +265,13 @@ frame_of called = record { called = called; base = 0; items = 0 }
 
 -- a machine that has run nothing
 abbrev pub loaded : Mach World
-loaded = record { pending = []; operands = []; state = record { vars = []; frame = frame_of []; store = new_world; turns = 0 }; stopped = outcome.Returned [] }
+loaded = record {
+  pending = [];
+  operands = [];
+  state = record { vars = []; frame = frame_of []; store = new_world; turns = 0 };
+  stopped =
+      outcome.Returned [];
+}
 
 abbrev pub step_of : Code → Mach World → Mach World
 step_of code m = step counted_rows code m
@@ -261,21 +290,30 @@ is_over outcome.Memory = true
 
 -- the world with a mark and the arguments above it
 abbrev pub with_call : List ℕ → World → World
-with_call args w = record { cells = w.cells; args = take w.top w.args ++ args; top = w.top + length args; marks = w.top ∷ w.marks; temps = w.temps; scopes = w.scopes; names = w.names }
+with_call args w =
+    record w {
+      args = take w.top w.args ++ args;
+      top = w.top + length args;
+      marks = w.top ∷ w.marks;
+    }
 
 -- the state at the beginning of a call
 abbrev pub begun_state : List ℕ → List ℕ → ℕ → State World → State World
-begun_state sub args turns σ = record { vars = []; frame = frame_of sub; store = with_call args σ.store; turns = turns }
+begun_state sub args turns σ =
+    record { vars = []; frame = frame_of sub; store = with_call args σ.store; turns = turns }
 
 abbrev pub begun_with : List ℕ → Option ℕ → List ℕ → ℕ → State World → Mach World
-begun_with sub f args turns σ = run_on (Enter f ∷ Leave (depths_of σ.store) ∷ []) [] (begun_state sub args turns σ)
+begun_with sub f args turns σ =
+    run_on (Enter f ∷ Leave (depths_of σ.store) ∷ []) [] (begun_state sub args turns σ)
 
--- What a call with these arguments comes to, where nothing bars it: behind a run that was over for good nothing is run, and more items
--- than the argument list may have trap Large.
+-- What a call with these arguments comes to, where nothing bars it: after a run that was over for
+-- good nothing is run, and more items than the argument list may have trap Large.
 abbrev pub unless_barred : List ℕ → Mach World → Mach World → Mach World
 unless_barred args m goes =
-    cond (is_over m.stopped) m
-    (cond (nat_lt MOST_ITEMS (m.state.store.top + length args)) (halt (outcome.Trapped trap.Large) m.state) goes)
+    if is_over m.stopped then m
+    else if nat_lt most_items (m.state.store.top + length args)
+    then halt (outcome.Trapped trap.Large) m.state
+    else goes
 
 -- The entry of a function under a name is made the pending work.
 abbrev pub begun_at : List ℕ → Option ℕ → List ℕ → ℕ → Mach World → Mach World
@@ -287,7 +325,8 @@ begun sub args turns m = begun_at sub (registered sub m.state.store.names) args 
 
 -- the entry of the boot function under its own name
 abbrev pub boot_begun : Code → ℕ → Mach World → Mach World
-boot_begun code turns m = begun_at (name_of (function_at code (boot_at code))) (boot_at code) [] turns m
+boot_begun code turns m =
+    begun_at (name_of (function_at code (boot_at code))) (boot_at code) [] turns m
 
 -- a call, and the boot, run to the end
 abbrev pub called : Code → List ℕ → List ℕ → ℕ → Mach World → Mach World
@@ -310,12 +349,14 @@ abbrev pub settled_to : Swept World → Mach World → Mach World
 settled_to (Clean w) m = with_world w m
 settled_to (Dirty t w) m = record (with_world w m) { stopped = outcome.Trapped t }
 
--- Frees the temporaries of the last call and cuts all stacks to the runner's. Nothing is done where a run was over for good.
+-- Frees the temporaries of the last call and cuts all stacks to the runner's. Nothing is done where
+-- a run was over for good.
 abbrev pub settled : Mach World → Mach World
-settled m = cond (is_over m.stopped) m (settled_to (sweep runner_depths m.state.store) m)
+settled m =
+    if is_over m.stopped then m else settled_to (sweep runner_depths m.state.store) m
 
 abbrev pub or_returned : Outcome → Outcome
-or_returned o = cond (is_over o) o (outcome.Returned [])
+or_returned o = if is_over o then o else outcome.Returned []
 
 -- what the settling answers: no items, or why a run was over for good
 abbrev pub settle_answer : Mach World → Outcome

@@ -1,9 +1,9 @@
 //! Laws above the machine. These functions do nothing: their contracts are what is proved.
-ghost use Rattle.xs_machine.specs.Law.{CallMeans, MachineFollows, RunEnds};
-ghost use Rattle.xs_api.specs.Rows.{counted_rows};
-ghost use Rattle.xs_ccheck.specs.Tree.{Code};
+ghost use Rattle.xs_machine.specs.Laws.{CallMeans, MachineFollows, RunEnds};
+ghost use Rattle.xs_machine.specs.Dispatch.{counted_rows};
+ghost use Rattle.xs_ccheck.specs.TypedTree.{Code};
 
-/// From a tree with any work behind it the machine comes to where the tree's meaning says.
+/// From a tree with any work after it the machine comes to where the tree's meaning says.
 pub fn machine_follows_meaning()
     ensures { (code : Code) → MachineFollows counted_rows code }
 {}

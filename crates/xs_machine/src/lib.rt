@@ -1,6 +1,7 @@
 //! The machine that runs resolved code, one step at a time, over Perl's state.
 #![tactic(auto)]
 
+mod dispatch;
 mod laws;
 mod machine;
 mod work;

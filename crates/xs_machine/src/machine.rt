@@ -4,10 +4,10 @@ ghost use Rattle.std.specs.Prelude.{◌≡◌, ◌≢◌, ◌+◌, ◌≤◌, []
 ghost use Rattle.xs_ccheck.specs.Functions.{code_of};
 ghost use Rattle.xs_api.specs.Heaps.{value_at};
 ghost use Rattle.xs_machine.specs.Machine as machine;
-ghost use Rattle.xs_api.specs.declared.stacks.TheConstants.{MOST_ITEMS};
-ghost use Rattle.xs_api.specs.Rows.{counted_rows};
-ghost use Rattle.xs_machine.specs.State as state;
-ghost use Rattle.xs_machine.specs.Views.{IsFailed, MakesArgument, code_in, mach_of, operands_of, pending_of, state_of, task_of};
+ghost use Rattle.xs_api.specs.Limits.{most_items};
+ghost use Rattle.xs_machine.specs.Dispatch.{counted_rows};
+ghost use Rattle.xs_machine.specs.MachineState as state;
+ghost use Rattle.xs_machine.specs.MachineViews.{IsFailed, MakesArgument, code_in, mach_of, operands_of, pending_of, state_of, task_of};
 ghost use Rattle.xs_api.specs.World as world;
 ghost use Rattle.xs_api.specs.World.{depths_of, live_of};
 
@@ -18,7 +18,8 @@ use xs_api::{
     push_top,
 };
 use xs_base::{Bytes, Items, Memory};
-use xs_ccheck::{RowNode, Typed, ValueType};
+use xs_ccheck::{Typed, ValueType};
+use xs_perlapi::Row;
 use xs_values::{Kind, Name, Op, Plain, Trap};
 
 /// How the work that ended last came to its end.
@@ -53,8 +54,8 @@ pub enum Task {
     SetVar(u32, ValueType),
     Operate(Op),
     ConvertTop(Kind),
-    /// A row, and how many operands it takes.
-    DoRow(RowNode, u32),
+    /// A row of Perl's API, and how many operands it takes.
+    DoRow(Row, u32),
     Branch(u32, u32),
     ForgetTop,
     DropTop,
@@ -90,7 +91,7 @@ impl Machine {
         self.stopped = outcome;
     }
 
-    // Ends all work for want of memory.
+    // Ends all work where memory runs out.
     fn fail(&mut self) -> Memory
         ensures failed { IsFailed (mach_of self.new) }
         ensures typed { self.new.typed ≡ self.old.typed }
@@ -99,9 +100,11 @@ impl Machine {
         Memory
     }
 
-    // Leaves an XS function: a croak frees the temporaries that were made since its entry and cuts the stacks.
+    // Leaves an XS function: a croak frees the temporaries that were made since its entry and cuts
+    // the stacks.
     pub(crate) fn leave(&mut self, abrupt: Abrupt, d: Depths)
-        ensures leaves { mach_of self.new ≡ machine.at_leave counted_rows abrupt d (state_of self.old) }
+        ensures leaves { mach_of self.new
+            ≡ machine.at_leave counted_rows abrupt d (state_of self.old) }
         ensures typed { self.new.typed ≡ self.old.typed }
     {
         match abrupt {
@@ -111,7 +114,8 @@ impl Machine {
     }
 
     fn leave_by_croak(&mut self, text: Bytes, d: Depths)
-        ensures leaves { mach_of self.new ≡ machine.at_leave counted_rows (Abrupt.Croaks text) d (state_of self.old) }
+        ensures leaves { mach_of self.new
+            ≡ machine.at_leave counted_rows (Abrupt.Croaks text) d (state_of self.old) }
         ensures typed { self.new.typed ≡ self.old.typed }
     {
         match self.perl.sweep(&d) {
@@ -122,7 +126,8 @@ impl Machine {
 
     // Drops pending work up to where the way out is taken.
     pub(crate) fn unwind(&mut self, abrupt: Abrupt)
-        ensures unwinds { mach_of self.new ≡ machine.unwind counted_rows abrupt (pending_of self.old) (state_of self.old) }
+        ensures unwinds { mach_of self.new
+            ≡ machine.unwind counted_rows abrupt (pending_of self.old) (state_of self.old) }
         ensures typed { self.new.typed ≡ self.old.typed }
     {
         while let Some(task) = pop_top(&mut self.pending) {
@@ -135,7 +140,8 @@ impl Machine {
 
     // Puts an operand on top.
     pub(crate) fn push(&mut self, v: Operand) -> Result<(), Memory>
-        ensures pushed { OnOk result (mach_of self.new ≡ record (mach_of self.old) { operands = v ∷ operands_of self.old }) }
+        ensures pushed { OnOk result (mach_of self.new
+            ≡ record (mach_of self.old) { operands = v ∷ operands_of self.old }) }
         ensures typed { self.new.typed ≡ self.old.typed }
     {
         push_top(&mut self.operands, v)
@@ -143,7 +149,11 @@ impl Machine {
 
     // Makes a piece of work the next one.
     pub(crate) fn then(&mut self, task: Task) -> Result<(), Memory>
-        ensures pushed { OnOk result (mach_of self.new ≡ record (mach_of self.old) { pending = task_of self.old.typed task ∷ pending_of self.old }) }
+        ensures pushed { OnOk result (mach_of self.new
+            ≡ record (mach_of self.old) {
+              pending = task_of self.old.typed task
+                  ∷ pending_of self.old;
+            }) }
         ensures typed { self.new.typed ≡ self.old.typed }
     {
         push_top(&mut self.pending, task)
@@ -151,7 +161,11 @@ impl Machine {
 
     // Makes two pieces of work the next ones.
     pub(crate) fn then_two(&mut self, first: Task, second: Task) -> Result<(), Memory>
-        ensures pushed { OnOk result (mach_of self.new ≡ record (mach_of self.old) { pending = task_of self.old.typed first ∷ task_of self.old.typed second ∷ pending_of self.old }) }
+        ensures pushed { OnOk result (mach_of self.new
+            ≡ record (mach_of self.old) {
+              pending = task_of self.old.typed first
+                  ∷ task_of self.old.typed second ∷ pending_of self.old;
+            }) }
         ensures typed { self.new.typed ≡ self.old.typed }
     {
         self.then(second)?;
@@ -213,12 +227,15 @@ impl Machine {
         self.perl.make_temporary(value)
     }
 
-    // One step. For want of memory it ends all work.
+    // One step. For running out of memory it ends all work.
     fn advance(&mut self) -> Result<Step, Memory>
-        ensures steps { OnOk result (mach_of self.new ≡ machine.step_of (code_in self.old) (mach_of self.old)) }
-        ensures ended { IfOk result (λ s. s ≡ Step.Ended → (pending_of self.old ≡ []) × (mach_of self.new ≡ mach_of self.old)) }
+        ensures steps { OnOk result (mach_of self.new
+            ≡ machine.step_of (code_in self.old) (mach_of self.old)) }
+        ensures ended { IfOk result (λ s. s ≡ Step.Ended
+            → (pending_of self.old ≡ []) × (mach_of self.new ≡ mach_of self.old)) }
         ensures went { result ≢ Ok Step.Ended → pending_of self.old ≢ [] }
-        ensures failed { OnErr result (((mach_of self.new).stopped ≡ Outcome.Memory) × (pending_of self.new ≡ [])) }
+        ensures failed { OnErr result (((mach_of self.new).stopped ≡ Outcome.Memory)
+            × (pending_of self.new ≡ [])) }
         ensures code { code_in self.new ≡ code_in self.old }
     {
         match pop_top(&mut self.pending) {
@@ -235,8 +252,10 @@ impl Machine {
 
     /// One step. Where no work is pending it answers Ended and changes nothing.
     pub fn step(&mut self) -> Step
-        ensures steps { (mach_of self.new).stopped ≢ Outcome.Memory → mach_of self.new ≡ machine.step_of (code_in self.old) (mach_of self.old) }
-        ensures ended { result ≡ Step.Ended → (pending_of self.old ≡ []) × (mach_of self.new ≡ mach_of self.old) }
+        ensures steps { (mach_of self.new).stopped ≢ Outcome.Memory
+            → mach_of self.new ≡ machine.step_of (code_in self.old) (mach_of self.old) }
+        ensures ended { result ≡ Step.Ended
+            → (pending_of self.old ≡ []) × (mach_of self.new ≡ mach_of self.old) }
         ensures went { result ≡ Step.Went → pending_of self.old ≢ [] }
         ensures code { code_in self.new ≡ code_in self.old }
     {
@@ -249,7 +268,8 @@ impl Machine {
 
     // Steps until no work is pending.
     fn run_to_end(&mut self)
-        ensures runs { (mach_of self.new).stopped ≢ Outcome.Memory → mach_of self.new ≡ machine.run (code_in self.old) (mach_of self.old) }
+        ensures runs { (mach_of self.new).stopped ≢ Outcome.Memory
+            → mach_of self.new ≡ machine.run (code_in self.old) (mach_of self.old) }
         ensures idle { pending_of self.new ≡ [] }
         ensures code { code_in self.new ≡ code_in self.old }
     {
@@ -262,11 +282,13 @@ impl Machine {
         }
     }
 
-    /// Makes the entry of the function that is registered under a name the pending work, with these arguments and so many
-    /// turns. After a trap or a spent run it starts nothing. More items than the argument list may have trap Large.
+    /// Makes the entry of the function that is registered under a name the pending work, with these
+    /// arguments and so many turns. After a trap or a spent run it starts nothing. More items than
+    /// the argument list may have trap Large.
     pub fn begin(&mut self, sub: &Bytes, args: &[Name], turns: u32) -> Result<(), Memory>
         requires { pending_of self.old ≡ [] }
-        ensures begins { OnOk result (mach_of self.new ≡ machine.begun sub.now args.now turns (mach_of self.old)) }
+        ensures begins { OnOk result (mach_of self.new
+            ≡ machine.begun sub.now args.now turns (mach_of self.old)) }
         ensures failed { OnErr result (IsFailed (mach_of self.new)) }
         ensures after { (mach_of self.old).stopped ≡ Outcome.Memory → IsErr result }
         ensures code { code_in self.new ≡ code_in self.old }
@@ -284,7 +306,8 @@ impl Machine {
         turns: u32,
     ) -> Result<(), Memory>
         requires { pending_of self.old ≡ [] }
-        ensures begins { OnOk result (mach_of self.new ≡ machine.begun_at sub.now function args.now turns (mach_of self.old)) }
+        ensures begins { OnOk result (mach_of self.new
+            ≡ machine.begun_at sub.now function args.now turns (mach_of self.old)) }
         ensures failed { OnErr result (IsFailed (mach_of self.new)) }
         ensures after { (mach_of self.old).stopped ≡ Outcome.Memory → IsErr result }
         ensures code { code_in self.new ≡ code_in self.old }
@@ -307,7 +330,8 @@ impl Machine {
     ) -> Result<(), Memory>
         requires idle { pending_of self.old ≡ [] }
         requires over { machine.is_over (mach_of self.old).stopped ≡ false }
-        ensures begins { OnOk result (mach_of self.new ≡ machine.begun_at sub.now function args.now turns (mach_of self.old)) }
+        ensures begins { OnOk result (mach_of self.new
+            ≡ machine.begun_at sub.now function args.now turns (mach_of self.old)) }
         ensures failed { OnErr result (IsFailed (mach_of self.new)) }
         ensures code { code_in self.new ≡ code_in self.old }
     {
@@ -328,8 +352,9 @@ impl Machine {
         args: &[Name],
         turns: u32,
     ) -> Result<(), Memory>
-        requires { (mach_of self.old).state.store.top + length args.now ≤ MOST_ITEMS }
-        ensures begins { OnOk result (mach_of self.new ≡ machine.begun_with sub.now function args.now turns (state_of self.old)) }
+        requires { (mach_of self.old).state.store.top + length args.now ≤ most_items }
+        ensures begins { OnOk result (mach_of self.new
+            ≡ machine.begun_with sub.now function args.now turns (state_of self.old)) }
         ensures code { code_in self.new ≡ code_in self.old }
     {
         let depths = self.perl.stacks.depths();
@@ -347,7 +372,8 @@ impl Machine {
     /// How the work that ended last came to its end; before any work, that nothing was returned.
     pub fn outcome(&mut self) -> Outcome
         requires { pending_of self.old ≡ [] }
-        ensures answer { result ≢ Outcome.Memory → (result ≡ (mach_of self.old).stopped) × (mach_of self.new ≡ mach_of self.old) }
+        ensures answer { result ≢ Outcome.Memory
+            → (result ≡ (mach_of self.old).stopped) × (mach_of self.new ≡ mach_of self.old) }
         ensures after { (mach_of self.old).stopped ≡ Outcome.Memory → result ≡ Outcome.Memory }
         ensures failed { result ≡ Outcome.Memory → IsFailed (mach_of self.new) }
         ensures idle { pending_of self.new ≡ [] }
@@ -362,10 +388,14 @@ impl Machine {
         }
     }
 
-    /// Calls the function that is registered under a name, in so many turns at most. A name that no function has croaks.
+    /// Calls the function that is registered under a name, in so many turns at most. A name that no
+    /// function has croaks.
     pub fn call(&mut self, sub: &Bytes, args: &[Name], turns: u32) -> Outcome
         requires { pending_of self.old ≡ [] }
-        ensures called { result ≢ Outcome.Memory → (mach_of self.new ≡ machine.called (code_in self.old) sub.now args.now turns (mach_of self.old)) × (result ≡ (mach_of self.new).stopped) }
+        ensures called { result ≢ Outcome.Memory
+            → (mach_of self.new
+            ≡ machine.called (code_in self.old) sub.now args.now turns (mach_of self.old))
+            × (result ≡ (mach_of self.new).stopped) }
         ensures after { (mach_of self.old).stopped ≡ Outcome.Memory → result ≡ Outcome.Memory }
         ensures failed { result ≡ Outcome.Memory → IsFailed (mach_of self.new) }
         ensures idle { pending_of self.new ≡ [] }
@@ -378,7 +408,9 @@ impl Machine {
     /// Calls the boot function under its own name, without arguments and in so many turns at most.
     pub fn boot(&mut self, turns: u32) -> Outcome
         requires { pending_of self.old ≡ [] }
-        ensures booted { result ≢ Outcome.Memory → (mach_of self.new ≡ machine.booted (code_in self.old) turns (mach_of self.old)) × (result ≡ (mach_of self.new).stopped) }
+        ensures booted { result ≢ Outcome.Memory
+            → (mach_of self.new ≡ machine.booted (code_in self.old) turns (mach_of self.old))
+            × (result ≡ (mach_of self.new).stopped) }
         ensures after { (mach_of self.old).stopped ≡ Outcome.Memory → result ≡ Outcome.Memory }
         ensures failed { result ≡ Outcome.Memory → IsFailed (mach_of self.new) }
         ensures idle { pending_of self.new ≡ [] }
@@ -395,7 +427,10 @@ impl Machine {
     // Calls a function under a name, in so many turns at most.
     fn call_at(&mut self, sub: &Bytes, function: Option<u32>, args: &[Name], turns: u32) -> Outcome
         requires { pending_of self.old ≡ [] }
-        ensures called { result ≢ Outcome.Memory → (mach_of self.new ≡ machine.run (code_in self.old) (machine.begun_at sub.now function args.now turns (mach_of self.old))) × (result ≡ (mach_of self.new).stopped) }
+        ensures called { result ≢ Outcome.Memory
+            → (mach_of self.new
+            ≡ machine.run (code_in self.old) (machine.begun_at sub.now function args.now turns
+            (mach_of self.old))) × (result ≡ (mach_of self.new).stopped) }
         ensures after { (mach_of self.old).stopped ≡ Outcome.Memory → result ≡ Outcome.Memory }
         ensures failed { result ≡ Outcome.Memory → IsFailed (mach_of self.new) }
         ensures idle { pending_of self.new ≡ [] }
@@ -409,7 +444,9 @@ impl Machine {
 
     // Runs what is pending to its end.
     fn finish(&mut self) -> Outcome
-        ensures runs { result ≢ Outcome.Memory → (mach_of self.new ≡ machine.run (code_in self.old) (mach_of self.old)) × (result ≡ (mach_of self.new).stopped) }
+        ensures runs { result ≢ Outcome.Memory
+            → (mach_of self.new ≡ machine.run (code_in self.old) (mach_of self.old))
+            × (result ≡ (mach_of self.new).stopped) }
         ensures failed { result ≡ Outcome.Memory → IsFailed (mach_of self.new) }
         ensures idle { pending_of self.new ≡ [] }
         ensures code { code_in self.new ≡ code_in self.old }
@@ -418,8 +455,9 @@ impl Machine {
         self.outcome()
     }
 
-    /// Frees the temporaries of the last call, cuts all stacks to the runner's, and answers that nothing was returned. After a
-    /// trap or a spent run it answers the same again, and does nothing.
+    /// Frees the temporaries of the last call, cuts all stacks to the runner's, and answers that
+    /// nothing was returned. After a trap or a spent run it answers the same again, and does
+    /// nothing.
     pub fn settle(&mut self) -> Outcome
         requires { pending_of self.old ≡ [] }
         ensures settled { mach_of self.new ≡ machine.settled (mach_of self.old) }

@@ -1,23 +1,27 @@
 //! One piece of pending work.
 ghost use Rattle.std.specs.Prelude.{◌≡◌, ◌∷◌, [], IfOk, MatchOption, OnOk, Some, replicate, reverse, slice_index_or, slice_set};
-ghost use Rattle.xs_ccheck.specs.Arena.{row_of, tree_at, tree_from, trees_at};
+ghost use Rattle.xs_ccheck.specs.Arena.{tree_at, tree_from, trees_at};
 ghost use Rattle.xs_machine.specs.Machine as machine;
-ghost use Rattle.xs_api.specs.Rows.{counted_rows};
-ghost use Rattle.xs_machine.specs.State as state;
-ghost use Rattle.xs_ccheck.specs.Tree.{Function, tree_count};
-ghost use Rattle.xs_machine.specs.Views.{HasTop, IsShort, Operates, code_in, mach_of, operands_of, pending_of, state_of, task_of};
+ghost use Rattle.xs_machine.specs.Dispatch.{counted_rows};
+ghost use Rattle.xs_machine.specs.MachineState as state;
+ghost use Rattle.xs_ccheck.specs.TypedTree.{CroakUsage, Function, Register, tree_count};
+ghost use Rattle.xs_machine.specs.MachineViews.{HasTop, IsShort, Operates, code_in, mach_of, operands_of, pending_of, state_of, task_of};
 
+use crate::dispatch::{croak_usage, register, row_at};
 use crate::machine::{Machine, Outcome, Task};
 use std::alloc::Global;
 use xs_api::{Abrupt, Depths, Halt, Operand, pop_top};
 use xs_base::{Bytes, Items, Memory};
-use xs_ccheck::{Callable, Node, RowNode, Typed, ValueType};
+use xs_ccheck::{Callable, Node, Typed, ValueType};
+use xs_perlapi::Row;
 use xs_values::{Kind, Op, Trap, arith, wrap};
 
 // One tree, by its node.
 fn act_on_tree(m: &mut Machine, i: u32) -> Result<(), Memory>
     requires { m.old.stopped ≡ Outcome.Returned [] }
-    ensures acts { OnOk result (mach_of m.new ≡ machine.act_tree counted_rows (tree_at m.old.typed.texts.items m.old.typed.nodes.items i) (pending_of m.old) (operands_of m.old) (state_of m.old)) }
+    ensures acts { OnOk result (mach_of m.new
+        ≡ machine.act_tree counted_rows (tree_at m.old.typed.texts.items m.old.typed.nodes.items i)
+        (pending_of m.old) (operands_of m.old) (state_of m.old)) }
     ensures typed { m.new.typed ≡ m.old.typed }
 {
     match m.typed.node(i) {
@@ -28,7 +32,12 @@ fn act_on_tree(m: &mut Machine, i: u32) -> Result<(), Memory>
 
 fn act_on_node(m: &mut Machine, node: Node) -> Result<(), Memory>
     requires { m.old.stopped ≡ Outcome.Returned [] }
-    ensures acts { OnOk result (mach_of m.new ≡ machine.act_tree counted_rows (tree_from m.old.typed.texts.items (Some node) (tree_at m.old.typed.texts.items m.old.typed.nodes.items) (trees_at m.old.typed.texts.items m.old.typed.nodes.items)) (pending_of m.old) (operands_of m.old) (state_of m.old)) }
+    ensures acts { OnOk result (mach_of m.new
+        ≡ machine.act_tree counted_rows
+        (tree_from m.old.typed.texts.items (Some node)
+        (tree_at m.old.typed.texts.items m.old.typed.nodes.items)
+        (trees_at m.old.typed.texts.items m.old.typed.nodes.items)) (pending_of m.old)
+        (operands_of m.old) (state_of m.old)) }
     ensures typed { m.new.typed ≡ m.old.typed }
 {
     match node {
@@ -44,6 +53,8 @@ fn act_on_node(m: &mut Machine, node: Node) -> Result<(), Memory>
             let count = count_trees(&m.typed, xs);
             m.then_two(Task::DoTrees(xs), Task::DoRow(row, count))
         }
+        Node::CroakUsage(text) => act_on_usage(m, text),
+        Node::Register(name, function) => act_on_registration(m, name, function),
         Node::Block(ts) => m.then(Task::DoBlock(ts)),
         Node::If(e, a, b) => m.then_two(Task::DoTree(e), Task::Branch(a, b)),
         Node::Forget(e) => m.then_two(Task::DoTree(e), Task::ForgetTop),
@@ -58,7 +69,9 @@ fn act_on_node(m: &mut Machine, node: Node) -> Result<(), Memory>
 // The number of arguments.
 fn push_items(m: &mut Machine) -> Result<(), Memory>
     requires { m.old.stopped ≡ Outcome.Returned [] }
-    ensures acts { OnOk result (mach_of m.new ≡ machine.run_on (pending_of m.old) (state.item_count (state_of m.old) ∷ operands_of m.old) (state_of m.old)) }
+    ensures acts { OnOk result (mach_of m.new
+        ≡ machine.run_on (pending_of m.old) (state.item_count (state_of m.old) ∷ operands_of m.old)
+        (state_of m.old)) }
     ensures typed { m.new.typed ≡ m.old.typed }
 {
     let items = wrap(Kind::I32, i128::from(m.frame.items));
@@ -68,7 +81,9 @@ fn push_items(m: &mut Machine) -> Result<(), Memory>
 // A variable's value.
 fn read_variable(m: &mut Machine, x: u32) -> Result<(), Memory>
     requires { m.old.stopped ≡ Outcome.Returned [] }
-    ensures acts { OnOk result (mach_of m.new ≡ machine.land counted_rows ◌∷◌ (pending_of m.old) (operands_of m.old) (state.read_var x (state_of m.old))) }
+    ensures acts { OnOk result (mach_of m.new
+        ≡ machine.land counted_rows ◌∷◌ (pending_of m.old) (operands_of m.old)
+        (state.read_var x (state_of m.old))) }
     ensures typed { m.new.typed ≡ m.old.typed }
 {
     match variable(&m.vars, x) {
@@ -113,7 +128,10 @@ fn count_trees(typed: &Typed, xs: u32) -> u32
 // Operands, or statements, that are still to be done.
 fn act_on_trees(m: &mut Machine, i: u32) -> Result<(), Memory>
     requires { m.old.stopped ≡ Outcome.Returned [] }
-    ensures acts { OnOk result (mach_of m.new ≡ machine.act counted_rows (code_in m.old) (machine.DoTrees (trees_at m.old.typed.texts.items m.old.typed.nodes.items i)) (pending_of m.old) (operands_of m.old) (state_of m.old)) }
+    ensures acts { OnOk result (mach_of m.new
+        ≡ machine.act counted_rows (code_in m.old)
+        (machine.DoTrees (trees_at m.old.typed.texts.items m.old.typed.nodes.items i))
+        (pending_of m.old) (operands_of m.old) (state_of m.old)) }
     ensures typed { m.new.typed ≡ m.old.typed }
 {
     match m.typed.node(i) {
@@ -124,7 +142,10 @@ fn act_on_trees(m: &mut Machine, i: u32) -> Result<(), Memory>
 
 fn act_on_block(m: &mut Machine, i: u32) -> Result<(), Memory>
     requires { m.old.stopped ≡ Outcome.Returned [] }
-    ensures acts { OnOk result (mach_of m.new ≡ machine.act counted_rows (code_in m.old) (machine.DoBlock (trees_at m.old.typed.texts.items m.old.typed.nodes.items i)) (pending_of m.old) (operands_of m.old) (state_of m.old)) }
+    ensures acts { OnOk result (mach_of m.new
+        ≡ machine.act counted_rows (code_in m.old)
+        (machine.DoBlock (trees_at m.old.typed.texts.items m.old.typed.nodes.items i))
+        (pending_of m.old) (operands_of m.old) (state_of m.old)) }
     ensures typed { m.new.typed ≡ m.old.typed }
 {
     match m.typed.node(i) {
@@ -136,7 +157,8 @@ fn act_on_block(m: &mut Machine, i: u32) -> Result<(), Memory>
     }
 }
 
-// Takes the topmost operand. Where it is missing, which no tree of the types stage comes to, all work ends.
+// Pops the topmost operand. Where it is missing, which no tree of the types stage comes to, all
+// work ends.
 fn pop_operand(m: &mut Machine) -> Option<Operand>
     ensures pops { MatchOption result (IsShort m.old m.new) (λ v. HasTop v m.old m.new) }
     ensures typed { m.new.typed ≡ m.old.typed }
@@ -153,7 +175,9 @@ fn pop_operand(m: &mut Machine) -> Option<Operand>
 // Goes on with a value, or unwinds.
 fn land(m: &mut Machine, value: Result<Operand, Trap>) -> Result<(), Memory>
     requires { m.old.stopped ≡ Outcome.Returned [] }
-    ensures lands { OnOk result (mach_of m.new ≡ machine.land counted_rows ◌∷◌ (pending_of m.old) (operands_of m.old) (state.given_or value (state_of m.old))) }
+    ensures lands { OnOk result (mach_of m.new
+        ≡ machine.land counted_rows ◌∷◌ (pending_of m.old) (operands_of m.old)
+        (state.given_or value (state_of m.old))) }
     ensures typed { m.new.typed ≡ m.old.typed }
 {
     match value {
@@ -168,7 +192,9 @@ fn land(m: &mut Machine, value: Result<Operand, Trap>) -> Result<(), Memory>
 // An assignment of the topmost operand.
 fn act_on_assign(m: &mut Machine, x: u32, t: ValueType) -> Result<(), Memory>
     requires { m.old.stopped ≡ Outcome.Returned [] }
-    ensures acts { OnOk result (mach_of m.new ≡ machine.act counted_rows (code_in m.old) (machine.SetVar x t) (pending_of m.old) (operands_of m.old) (state_of m.old)) }
+    ensures acts { OnOk result (mach_of m.new
+        ≡ machine.act counted_rows (code_in m.old) (machine.SetVar x t) (pending_of m.old)
+        (operands_of m.old) (state_of m.old)) }
     ensures typed { m.new.typed ≡ m.old.typed }
 {
     let Some(v) = pop_operand(m) else {
@@ -182,7 +208,9 @@ fn act_on_assign(m: &mut Machine, x: u32, t: ValueType) -> Result<(), Memory>
 
 fn assign(m: &mut Machine, x: u32, v: Operand) -> Result<(), Memory>
     requires { m.old.stopped ≡ Outcome.Returned [] }
-    ensures acts { OnOk result (mach_of m.new ≡ machine.land counted_rows ◌∷◌ (pending_of m.old) (operands_of m.old) (state.assign_as (Some v) x (state_of m.old))) }
+    ensures acts { OnOk result (mach_of m.new
+        ≡ machine.land counted_rows ◌∷◌ (pending_of m.old) (operands_of m.old)
+        (state.assign_as (Some v) x (state_of m.old))) }
     ensures typed { m.new.typed ≡ m.old.typed }
 {
     write_variable(&mut m.vars, x, &v);
@@ -209,7 +237,9 @@ fn assigned(t: ValueType, v: Operand) -> Option<Operand>
 // An operator on the two topmost operands.
 fn act_on_operator(m: &mut Machine, op: Op) -> Result<(), Memory>
     requires { m.old.stopped ≡ Outcome.Returned [] }
-    ensures acts { OnOk result (mach_of m.new ≡ machine.act counted_rows (code_in m.old) (machine.Operate op) (pending_of m.old) (operands_of m.old) (state_of m.old)) }
+    ensures acts { OnOk result (mach_of m.new
+        ≡ machine.act counted_rows (code_in m.old) (machine.Operate op) (pending_of m.old)
+        (operands_of m.old) (state_of m.old)) }
     ensures typed { m.new.typed ≡ m.old.typed }
 {
     let Some(b) = pop_operand(m) else {
@@ -239,7 +269,9 @@ fn operate(op: Op, a: Operand, b: Operand) -> Result<Operand, Trap>
 // A conversion of the topmost operand.
 fn act_on_convert(m: &mut Machine, kind: Kind) -> Result<(), Memory>
     requires { m.old.stopped ≡ Outcome.Returned [] }
-    ensures acts { OnOk result (mach_of m.new ≡ machine.act counted_rows (code_in m.old) (machine.ConvertTop kind) (pending_of m.old) (operands_of m.old) (state_of m.old)) }
+    ensures acts { OnOk result (mach_of m.new
+        ≡ machine.act counted_rows (code_in m.old) (machine.ConvertTop kind) (pending_of m.old)
+        (operands_of m.old) (state_of m.old)) }
     ensures typed { m.new.typed ≡ m.old.typed }
 {
     let Some(v) = pop_operand(m) else {
@@ -254,7 +286,9 @@ fn act_on_convert(m: &mut Machine, kind: Kind) -> Result<(), Memory>
 // A condition on the topmost operand.
 fn act_on_branch(m: &mut Machine, a: u32, b: u32) -> Result<(), Memory>
     requires { m.old.stopped ≡ Outcome.Returned [] }
-    ensures acts { OnOk result (mach_of m.new ≡ machine.act counted_rows (code_in m.old) (task_of m.old.typed (Task.Branch a b)) (pending_of m.old) (operands_of m.old) (state_of m.old)) }
+    ensures acts { OnOk result (mach_of m.new
+        ≡ machine.act counted_rows (code_in m.old) (task_of m.old.typed (Task.Branch a b))
+        (pending_of m.old) (operands_of m.old) (state_of m.old)) }
     ensures typed { m.new.typed ≡ m.old.typed }
 {
     let Some(v) = pop_operand(m) else {
@@ -279,13 +313,53 @@ fn truth_of(v: Operand) -> Option<bool>
 }
 
 // A row on the topmost operands.
-fn act_on_row(m: &mut Machine, row: RowNode, n: u32) -> Result<(), Memory>
+fn act_on_row(m: &mut Machine, row: Row, n: u32) -> Result<(), Memory>
     requires { m.old.stopped ≡ Outcome.Returned [] }
-    ensures acts { OnOk result (mach_of m.new ≡ machine.act counted_rows (code_in m.old) (machine.DoRow (row_of m.old.typed.texts.items row) n) (pending_of m.old) (operands_of m.old) (state_of m.old)) }
+    ensures acts { OnOk result (mach_of m.new
+        ≡ machine.act counted_rows (code_in m.old)
+        (machine.DoRow row n) (pending_of m.old) (operands_of m.old) (state_of m.old)) }
     ensures typed { m.new.typed ≡ m.old.typed }
 {
-    let operands = take_operands(&mut m.operands, n)?;
-    match m.perl.row(row, &m.typed, &operands, &mut m.frame) {
+    let operands = pop_operands(&mut m.operands, n)?;
+    match row_at(&mut m.perl, row, &operands, &mut m.frame) {
+        Ok(v) => m.push(v),
+        Err(Halt::Way(abrupt)) => {
+            m.unwind(abrupt);
+            Ok(())
+        }
+        Err(Halt::Memory) => Err(Memory),
+    }
+}
+
+// The croak for wrong use.
+fn act_on_usage(m: &mut Machine, text: u32) -> Result<(), Memory>
+    requires { m.old.stopped ≡ Outcome.Returned [] }
+    ensures acts { OnOk result (mach_of m.new
+        ≡ machine.act_tree counted_rows
+        (CroakUsage (slice_index_or m.old.typed.texts.items text [])) (pending_of m.old)
+        (operands_of m.old) (state_of m.old)) }
+    ensures typed { m.new.typed ≡ m.old.typed }
+{
+    match croak_usage(&m.perl, &m.typed, text, &m.frame) {
+        Ok(v) => m.push(v),
+        Err(Halt::Way(abrupt)) => {
+            m.unwind(abrupt);
+            Ok(())
+        }
+        Err(Halt::Memory) => Err(Memory),
+    }
+}
+
+// The registration of a function under a Perl name.
+fn act_on_registration(m: &mut Machine, name: u32, function: u32) -> Result<(), Memory>
+    requires { m.old.stopped ≡ Outcome.Returned [] }
+    ensures acts { OnOk result (mach_of m.new
+        ≡ machine.act_tree counted_rows
+        (Register (slice_index_or m.old.typed.texts.items name []) function) (pending_of m.old)
+        (operands_of m.old) (state_of m.old)) }
+    ensures typed { m.new.typed ≡ m.old.typed }
+{
+    match register(&mut m.perl, &m.typed, name, function, &m.frame) {
         Ok(v) => m.push(v),
         Err(Halt::Way(abrupt)) => {
             m.unwind(abrupt);
@@ -296,8 +370,9 @@ fn act_on_row(m: &mut Machine, row: RowNode, n: u32) -> Result<(), Memory>
 }
 
 // The topmost operands, in the order in which they came.
-fn take_operands(stack: &mut Vec<Operand>, n: u32) -> Result<Vec<Operand>, Memory>
-    ensures { IfOk result (λ taken. machine.taken n [] (reverse stack.old.items) ≡ (taken.items, reverse stack.new.items)) }
+fn pop_operands(stack: &mut Vec<Operand>, n: u32) -> Result<Vec<Operand>, Memory>
+    ensures { IfOk result (λ popped. machine.popped n [] (reverse stack.old.items)
+        ≡ (popped.items, reverse stack.new.items)) }
 {
     let at = stack.len().saturating_sub(n as usize);
     let operands = stack.split_off(at)?;
@@ -307,7 +382,9 @@ fn take_operands(stack: &mut Vec<Operand>, n: u32) -> Result<Vec<Operand>, Memor
 // The entry of a function.
 fn enter(m: &mut Machine, f: Option<u32>) -> Result<(), Memory>
     requires { m.old.stopped ≡ Outcome.Returned [] }
-    ensures acts { OnOk result (mach_of m.new ≡ machine.act counted_rows (code_in m.old) (machine.Enter f) (pending_of m.old) (operands_of m.old) (state_of m.old)) }
+    ensures acts { OnOk result (mach_of m.new
+        ≡ machine.act counted_rows (code_in m.old) (machine.Enter f) (pending_of m.old)
+        (operands_of m.old) (state_of m.old)) }
     ensures typed { m.new.typed ≡ m.old.typed }
 {
     match m.typed.callee(f) {
@@ -322,7 +399,10 @@ fn enter(m: &mut Machine, f: Option<u32>) -> Result<(), Memory>
 
 fn enter_body(m: &mut Machine, callee: Callable) -> Result<(), Memory>
     requires { m.old.stopped ≡ Outcome.Returned [] }
-    ensures acts { (g : Function) → g.slots ≡ callee.slots → g.body ≡ tree_at m.old.typed.texts.items m.old.typed.nodes.items callee.body → OnOk result (mach_of m.new ≡ machine.enter counted_rows (Some g) (pending_of m.old) (state_of m.old)) }
+    ensures acts { (g : Function) → g.slots ≡ callee.slots
+        → g.body ≡ tree_at m.old.typed.texts.items m.old.typed.nodes.items callee.body
+        → OnOk result (mach_of m.new
+        ≡ machine.enter counted_rows (Some g) (pending_of m.old) (state_of m.old)) }
     ensures typed { m.new.typed ≡ m.old.typed }
 {
     if m.turns == 0 {
@@ -359,7 +439,9 @@ fn undefined_text(alloc: Global, name: &Bytes) -> Result<Bytes, Memory>
 // The end of a function's body.
 fn fall_off(m: &mut Machine, d: Depths) -> Result<(), Memory>
     requires { m.old.stopped ≡ Outcome.Returned [] }
-    ensures acts { OnOk result (mach_of m.new ≡ machine.act counted_rows (code_in m.old) (machine.Leave d) (pending_of m.old) (operands_of m.old) (state_of m.old)) }
+    ensures acts { OnOk result (mach_of m.new
+        ≡ machine.act counted_rows (code_in m.old) (machine.Leave d) (pending_of m.old)
+        (operands_of m.old) (state_of m.old)) }
     ensures typed { m.new.typed ≡ m.old.typed }
 {
     match m.perl.xs_end(&m.frame) {
@@ -378,7 +460,9 @@ fn fall_off(m: &mut Machine, d: Depths) -> Result<(), Memory>
 /// Does one piece of pending work.
 pub(crate) fn act_on(m: &mut Machine, task: Task) -> Result<(), Memory>
     requires { m.old.stopped ≡ Outcome.Returned [] }
-    ensures acts { OnOk result (mach_of m.new ≡ machine.act counted_rows (code_in m.old) (task_of m.old.typed task) (pending_of m.old) (operands_of m.old) (state_of m.old)) }
+    ensures acts { OnOk result (mach_of m.new
+        ≡ machine.act counted_rows (code_in m.old) (task_of m.old.typed task) (pending_of m.old)
+        (operands_of m.old) (state_of m.old)) }
     ensures typed { m.new.typed ≡ m.old.typed }
 {
     match task {

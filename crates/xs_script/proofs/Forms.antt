@@ -1,11 +1,11 @@
 -- What reading an expression meets and how many turns it takes, form by form.
 use Rattle.std.proofs.Common.{◌≡◌, ℕ, suc, ◌+◌, List, [], ◌∷◌, Option, Some, None, refl, Ok}
 use Rattle.std.specs.Prelude.{unwrap_or}
-use Rattle.xs_script.specs.declared.token.Token.{Token}
+use Rattle.xs_script.specs.declared.line_part.Token.{Token}
 use Rattle.xs_script.specs.Form as f
 use Rattle.xs_script.specs.Form.{Form, Forms, Pairs, Deed}
-use Rattle.xs_script.specs.Input.{Input, named, exceeded, opened}
-use Rattle.xs_script.specs.Numbers.{number_of, argument_of}
+use Rattle.xs_script.specs.PartInput.{Input, named, exceeded, opened}
+use Rattle.xs_script.specs.ScriptNumbers.{number_of, argument_of}
 use Rattle.xs_script.specs.Value.{ranged}
 
 -- an input with these parts left
@@ -72,7 +72,8 @@ abbrev mutual
 abbrev pub steps : Form → ℕ
 steps e = inner e + 1
 
-pub ranged_done : {A : Type 0} (o : Option A) (stand_in : A) (text : List ℕ) (ts : List Token) (i : Input) → ranged o stand_in text (at ts i) ≡ Ok (unwrap_or o stand_in, at ts (out_of_range o text i))
+pub ranged_done : {A : Type 0} (o : Option A) (stand_in : A) (text : List ℕ) (ts : List Token) (i : Input)
+    → ranged o stand_in text (at ts i) ≡ Ok (unwrap_or o stand_in, at ts (out_of_range o text i))
 unfolding exceeded
 ranged_done (Some a) stand_in text ts i = refl
 ranged_done None stand_in text ts i = refl

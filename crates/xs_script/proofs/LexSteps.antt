@@ -2,15 +2,15 @@
 use Rattle.std.proofs.Common.{◌≡◌, ℕ, zero, suc, ◌+◌, ◌-◌, ◌<◌, ◌≤◌, true, List, [], ◌∷◌, ◌++◌, length, drop, Result, Ok, Err, refl, ap, arith}
 use Rattle.std.proofs.lemmas.List.{append-nil, length-append}
 use Rattle.xs_base.specs.Names.{is_qualified_name}
-use Rattle.xs_base.specs.Runs.{behind, front_of}
-use Rattle.xs_base.specs.declared.runs.ByteClass.{ByteClass}
-use Rattle.xs_base.specs.declared.runs.ByteClass.TheVariants.{Digit}
-use Rattle.xs_base.proofs.FrontRuns.{front_behind}
-use Rattle.xs_script.specs.declared.token.Token.{Token}
-use Rattle.xs_script.specs.declared.token.Front.TheVariants as front
+use Rattle.xs_base.specs.ByteRuns.{after_run, front_of}
+use Rattle.xs_base.specs.declared.byte_runs.ByteClass.{ByteClass}
+use Rattle.xs_base.specs.declared.byte_runs.ByteClass.TheVariants.{Digit}
+use Rattle.xs_base.proofs.FrontRuns.{front_after}
+use Rattle.xs_script.specs.declared.line_part.Token.{Token}
+use Rattle.xs_script.specs.declared.line_part.Front.TheVariants as front
 use Rattle.xs_script.specs.Lex.{first_part, tokens_from}
 use Rattle.xs_base.specs.Reading.{with_front}
-use Rattle.xs_script.specs.Telling.{NoReading}
+use Rattle.xs_script.specs.LineOutcomes.{NoReading}
 use Rattle.xs_base.proofs.Collecting.{with_front-with_front}
 
 -- bytes that belong to the part before
@@ -20,7 +20,8 @@ tokens_from-skip zero bytes = refl
 tokens_from-skip (suc skip) [] = refl
 tokens_from-skip (suc skip) (b ∷ bytes) = tokens_from-skip skip bytes
 
-pub at_blank : (out : List Token) (bytes : List ℕ) → 0 < length bytes → first_part bytes ≡ front.Blank → with_front out (tokens_from 0 bytes) ≡ with_front out (tokens_from 0 (drop 1 bytes))
+pub at_blank : (out : List Token) (bytes : List ℕ) → 0 < length bytes → first_part bytes ≡ front.Blank
+    → with_front out (tokens_from 0 bytes) ≡ with_front out (tokens_from 0 (drop 1 bytes))
 unfolding tokens_from
 at_blank out [] some e = absurd (omega arith)
 at_blank out (b ∷ bs) some e = rw e refl
@@ -47,7 +48,7 @@ at_end out (b ∷ bs) h = absurd (omega arith)
 -- ---- how long a name and a number are
 
 pub front_within : (class : ByteClass) (xs : List ℕ) → length (front_of class xs) ≤ length xs
-front_within class xs = omega (arith, ap length (front_behind class xs), length-append (front_of class xs) (behind class xs))
+front_within class xs = omega (arith, ap length (front_after class xs), length-append (front_of class xs) (after_run class xs))
 
 pub name_some : (name : List ℕ) → is_qualified_name name ≡ true → 0 < length name
 name_some [] h = absurd cc

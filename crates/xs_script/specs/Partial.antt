@@ -2,8 +2,8 @@
 use Rattle.std.specs.Option.{option_map}
 use Rattle.xs_script.specs.declared.value.Partial.{Partial}
 use Rattle.xs_script.specs.Brackets.{around_of}
-use Rattle.xs_script.specs.View.{plain}
+use Rattle.xs_script.specs.CommandViews.{expr_view}
 use Rattle.xs_script.specs.Value as v
 
 abbrev pub partial_of : Partial → v.Partial
-partial_of p = record { around = around_of p.around.items; ended = option_map plain p.ended }
+partial_of p = record { around = around_of p.around.items; ended = option_map expr_view p.ended }

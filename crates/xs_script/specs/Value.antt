@@ -1,18 +1,20 @@
--- Expressions. What stands in brackets is read with the list of the brackets that are open, the innermost first.
-use Rattle.std.specs.Prelude.{ℕ, zero, suc, ◌+◌, Bool, if◌then◌else◌, nat_lt, List, [], ◌∷◌, ◌++◌, length, Option, Some, None, codes}
+-- Expressions. What stands in brackets is read with the list of the brackets that are open, the
+-- innermost first.
+use Rattle.std.specs.Prelude.{ℕ, zero, suc, ◌+◌, Bool, if◌then◌else◌, nat_lt, List, [], ◌∷◌, ◌++◌, length, Option, Some, None}
 use Rattle.xs_script.specs.declared.command.Number.{Number}
 use Rattle.xs_script.specs.declared.command.Number.TheVariants as number
-use Rattle.xs_script.specs.declared.token.Kind.{Kind}
-use Rattle.xs_script.specs.declared.token.Kind.TheVariants as kind
-use Rattle.xs_script.specs.declared.token.Mark.{Mark}
-use Rattle.xs_script.specs.declared.token.Mark.TheVariants as mark
-use Rattle.xs_script.specs.Expr as p
-use Rattle.xs_script.specs.Expr.{Expr, exprs_of, entries_of}
-use Rattle.xs_script.specs.Input as i
+use Rattle.xs_script.specs.declared.line_part.Kind.{Kind}
+use Rattle.xs_script.specs.declared.line_part.Kind.TheVariants as kind
+use Rattle.xs_script.specs.declared.line_part.Mark.{Mark}
+use Rattle.xs_script.specs.declared.line_part.Mark.TheVariants as mark
+use Rattle.xs_script.specs.CommandTree as p
+use Rattle.xs_script.specs.CommandTree.{Expr, exprs_of, entries_of}
+use Rattle.xs_script.specs.PartInput as i
 use Rattle.xs_base.specs.Readers.{◌>>=◌, ◌>>◌, ◌<$>◌, pure}
-use Rattle.xs_script.specs.Input.{Reader, refuse, peek, eat, eat_word, expect, noted, named, exceeded, opened, left}
-use Rattle.xs_script.specs.Numbers.{number_of, argument_of}
+use Rattle.xs_script.specs.PartInput.{Reader, refuse, peek, eat, eat_word, expect, noted, named, exceeded, opened, left}
+use Rattle.xs_script.specs.ScriptNumbers.{number_of, argument_of}
 use Rattle.std.specs.Prelude.{pos}
+use Rattle.xs_script.specs.declared.command_words.TheConstants.{ARG, UNDEF}
 
 abbrev pub max_nesting : ℕ
 max_nesting = 16
@@ -37,14 +39,15 @@ whole_number = do
 -- `arg K`
 unfoldable pub argument : Reader ℕ
 argument = do
-  is_arg ← eat_word (codes "arg")
+  is_arg ← eat_word ARG.now
   if is_arg then (do text ← i.part kind.Number; ranged (argument_of text) 0 text) else refuse
 
 -- an expression that begins with a name: outside subs a variable, in subs an argument
 unfoldable pub by_name : Bool → Reader Expr
 by_name in_sub = do
-  is_undef ← eat_word (codes "undef")
-  if is_undef then pure p.Undef else (if in_sub then p.Argument <$> argument else p.Variable <$> variable)
+  is_undef ← eat_word UNDEF.now
+  if is_undef then pure p.Undef
+      else (if in_sub then p.Argument <$> argument else p.Variable <$> variable)
 
 -- a reference to a variable, outside subs
 unfoldable pub reference : Bool → Reader Expr
@@ -63,7 +66,8 @@ simple in_sub = do
   kind ← peek
   simple_by in_sub kind
 
--- an open bracket, with what was read in it; in a hash the key whose value comes next is behind the entries
+-- an open bracket, with what was read in it; in a hash the key whose value comes next is after the
+-- entries
 pub data Bracket : Type 0 where
   InList : List Expr → Bracket
   InHash : List (List ℕ × Expr) → List ℕ → Bracket
@@ -98,24 +102,25 @@ key = do
   expect mark.Arrow
   pure name
 
--- a key of a hash, whose value begins behind the arrow
+-- a key of a hash, whose value begins after the arrow
 abbrev pub keyed : List (List ℕ × Expr) → List Bracket → Reader Partial
 keyed entries around = do
   name ← key
   pure (inside (InHash entries name) around)
 
--- behind an opening bracket: it closes again, or the first of what stands in it begins
+-- after an opening bracket: it closes again, or the first of what stands in it begins
 abbrev pub in_bracket : Mark → Expr → Reader Partial → List Bracket → Reader Partial
 in_bracket closing empty first around = do
   noted (opened (length around + 1))
   is_empty ← eat closing
   if is_empty then pure (finished around empty) else first
 
--- behind `[`
+-- after `[`
 unfoldable pub in_square : List Bracket → Reader Partial
-in_square around = in_bracket mark.CloseSquare (p.ListOf p.NoMore) (pure (inside (InList []) around)) around
+in_square around =
+    in_bracket mark.CloseSquare (p.ListOf p.NoMore) (pure (inside (InList []) around)) around
 
--- behind `{`
+-- after `{`
 unfoldable pub in_curly : List Bracket → Reader Partial
 in_curly around = in_bracket mark.CloseCurly (p.HashOf p.NoEntry) (keyed [] around) around
 
@@ -139,11 +144,14 @@ goes_on closing again whole around = do
 
 -- where an expression has ended in a list
 unfoldable pub follow_list : List Expr → List Bracket → Reader Partial
-follow_list items around = goes_on mark.CloseSquare (pure (inside (InList items) around)) (p.ListOf (exprs_of items)) around
+follow_list items around =
+    goes_on mark.CloseSquare (pure (inside (InList items) around))
+    (p.ListOf (exprs_of items)) around
 
 -- where an expression has ended in a hash
 unfoldable pub follow_hash : List (List ℕ × Expr) → List Bracket → Reader Partial
-follow_hash entries around = goes_on mark.CloseCurly (keyed entries around) (p.HashOf (entries_of entries)) around
+follow_hash entries around =
+    goes_on mark.CloseCurly (keyed entries around) (p.HashOf (entries_of entries)) around
 
 -- where an expression has ended in this bracket
 abbrev pub follow : Bracket → Expr → List Bracket → Reader Partial
@@ -155,7 +163,8 @@ step in_sub None around go = begin in_sub around >>= go
 step in_sub (Some e) [] go = pure e
 step in_sub (Some e) (bracket ∷ around) go = follow bracket e around >>= go
 
--- The rest of an expression. Each turn but the last takes a part, so that the count of the parts is enough.
+-- The rest of an expression. Each turn but the last consumes a part, so that the count of the
+-- parts is enough.
 unfoldable pub turns : Bool → ℕ → Partial → Reader Expr
 turns in_sub zero partial = refuse
 turns in_sub (suc n) partial = step in_sub partial.ended partial.around (turns in_sub n)

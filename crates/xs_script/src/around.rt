@@ -23,10 +23,11 @@ pub fn depth(around: &Vec<Open>) -> usize
     around.len()
 }
 
-/// Takes the innermost bracket, if one is open.
+/// Removes the innermost bracket, if one is open.
 #[tactic(auto, using(crate::proofs::Arounds::arounds))]
 pub fn pop_open(around: &mut Vec<Open>) -> Option<Open>
-    ensures { MatchOption result (around_of around.old.items ≡ []) (λ inner. around_of around.old.items ≡ bracket inner ∷ around_of around.new.items) }
+    ensures { MatchOption result (around_of around.old.items
+        ≡ []) (λ inner. around_of around.old.items ≡ bracket inner ∷ around_of around.new.items) }
 {
     around.pop()
 }

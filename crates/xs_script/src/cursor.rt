@@ -1,28 +1,34 @@
 //! The parts that are left of a line.
 ghost use Rattle.std.specs.Prelude.{◌≡◌, ◌<◌, ◌^◌, MatchOption, None, Some};
-ghost use Rattle.xs_script.specs.Input as spec;
-ghost use Rattle.xs_script.specs.Input.{Reads};
+ghost use Rattle.xs_script.specs.PartInput as spec;
+ghost use Rattle.xs_script.specs.PartInput.{Reads};
 
+use crate::line_part::{Kind, Mark, Stop, Token};
 use crate::scope::{Scope, is_alive};
-use crate::token::{Kind, Mark, Stop, Token};
 use std::alloc::Global;
 use std::marker::Model;
-use xs_base::Bytes;
+use xs_base::{Bytes, TokenList};
 
 /// The parts that are left, and what was met so far that is at fault in a line with a reading.
 #[derive(Drop)]
 pub struct Cursor<'a> {
-    rest: &'a [Token],
+    rest: TokenList<'a, Token>,
     scope: &'a Scope,
     met: Met,
 }
 
 impl<'a> Model for Cursor<'a> {
-    ghost use Rattle.xs_script.specs.Input.{Input};
+    ghost use Rattle.xs_script.specs.PartInput.{Input};
 
     ghost Value = { Input };
 
-    ghost view = { λ c. record { rest = c.rest.now; scope = c.scope.now; unknown = c.met.unknown; beyond = c.met.beyond; deepest = c.met.deepest } };
+    ghost view = { λ c. record {
+      rest = c.rest;
+      scope = c.scope.now;
+      unknown = c.met.unknown;
+      beyond = c.met.beyond;
+      deepest = c.met.deepest;
+    } };
 }
 
 /// What was met in a line that is at fault although the line has a reading.
@@ -86,7 +92,8 @@ fn kind_of_token(token: &Token) -> Kind
 
 // The bytes of a part, if it is of this kind.
 fn bytes_in(kind: Kind, token: &Token) -> Option<&Bytes>
-    ensures { MatchOption result (spec.bytes_in kind token.now ≡ None) (λ bytes. spec.bytes_in kind token.now ≡ Some bytes.now) }
+    ensures { MatchOption result (spec.bytes_in kind token.now
+        ≡ None) (λ bytes. spec.bytes_in kind token.now ≡ Some bytes.now) }
 {
     match (kind, token) {
         (Kind::Name, Token::Name(bytes)) => Some(bytes),
@@ -107,12 +114,12 @@ pub fn names_sub(kind: Kind) -> bool
 }
 
 impl<'a> Cursor<'a> {
-    /// The parts of a line, behind what the lines before have declared.
+    /// The parts of a line, after what the lines before have declared.
     pub fn new(rest: &'a [Token], scope: &'a Scope) -> Cursor<'a>
         ensures { result ≡ spec.start_of scope.now rest.now }
     {
         Cursor {
-            rest,
+            rest: TokenList::new(rest),
             scope,
             met: Met {
                 unknown: None,
@@ -131,72 +138,70 @@ impl<'a> Cursor<'a> {
     }
 
     /// How many parts are left.
-    #[tactic(auto, unfolding(crate::specs::Input::left))]
+    #[tactic(auto, unfolding(crate::specs::PartInput::left))]
     pub fn left(&self) -> usize
         ensures value { result ≡ spec.left self.now }
         ensures few { result < 2 ^ 63 }
     {
-        self.rest.len()
+        self.rest.as_slice().len()
     }
 
     /// What kind of part comes next.
-    #[tactic(auto, unfolding(crate::specs::Input::kind_of))]
+    #[tactic(auto, unfolding(crate::specs::PartInput::kind_of))]
     pub fn kind(&self) -> Kind
         ensures { result ≡ spec.kind_of self.now }
     {
-        match self.rest {
-            [] => Kind::End,
-            [first, ..] => kind_of_token(first),
+        match self.rest.first() {
+            None => Kind::End,
+            Some(first) => kind_of_token(first),
         }
     }
 
-    /// What kind of part comes behind the next.
-    #[tactic(auto, unfolding(crate::specs::Input::kind_of, crate::specs::Input::next))]
-    pub fn kind_behind(&self) -> Kind
+    /// What kind of part comes after the next.
+    #[tactic(auto, unfolding(crate::specs::PartInput::kind_of, crate::specs::PartInput::next))]
+    pub fn kind_after(&self) -> Kind
         ensures { result ≡ spec.kind_of (spec.next self.now) }
     {
-        match self.rest {
+        match self.rest.as_slice() {
             [] | [_] => Kind::End,
             [_, second, ..] => kind_of_token(second),
         }
     }
 
     /// Whether this mark comes next.
-    #[tactic(auto, unfolding(crate::specs::Input::sees))]
+    #[tactic(auto, unfolding(crate::specs::PartInput::sees))]
     pub fn sees(&self, mark: Mark) -> bool
         ensures { result ≡ spec.sees mark self.now }
     {
-        match self.rest {
-            [] => false,
-            [first, ..] => is_mark(mark, first),
+        match self.rest.first() {
+            None => false,
+            Some(first) => is_mark(mark, first),
         }
     }
 
     /// Whether this word comes next.
-    #[tactic(auto, unfolding(crate::specs::Input::sees_word))]
+    #[tactic(auto, unfolding(crate::specs::PartInput::sees_word))]
     pub fn sees_word(&self, word: &[u8]) -> bool
         ensures { result ≡ spec.sees_word word.now self.now }
     {
-        match self.rest {
-            [] => false,
-            [first, ..] => is_word(word, first),
+        match self.rest.first() {
+            None => false,
+            Some(first) => is_word(word, first),
         }
     }
 
-    // Takes the next part, if there is one, where this is so.
-    #[tactic(auto, unfolding(crate::specs::Input::next))]
+    // Passes over the next part, if there is one, where this is so.
+    #[tactic(auto, unfolding(crate::specs::PartInput::next))]
     fn skip_if(&mut self, found: bool)
         ensures { self.new ≡ spec.past found self.old }
     {
         if found {
-            if let [_, rest @ ..] = self.rest {
-                self.rest = rest;
-            }
+            self.rest.skip();
         }
     }
 
-    /// Takes this mark, if it comes next.
-    #[tactic(auto, unfolding(crate::specs::Input::after))]
+    /// Consumes this mark, if it comes next.
+    #[tactic(auto, unfolding(crate::specs::PartInput::after))]
     pub fn eat(&mut self, mark: Mark) -> bool
         ensures found { result ≡ spec.sees mark self.old }
         ensures after { self.new ≡ spec.after mark self.old }
@@ -206,8 +211,8 @@ impl<'a> Cursor<'a> {
         found
     }
 
-    /// Takes this word, if it comes next.
-    #[tactic(auto, unfolding(crate::specs::Input::after_word))]
+    /// Consumes this word, if it comes next.
+    #[tactic(auto, unfolding(crate::specs::PartInput::after_word))]
     pub fn eat_word(&mut self, word: &[u8]) -> bool
         ensures found { result ≡ spec.sees_word word.now self.old }
         ensures after { self.new ≡ spec.after_word word.now self.old }
@@ -217,8 +222,8 @@ impl<'a> Cursor<'a> {
         found
     }
 
-    /// Takes this mark, which has to come next.
-    #[tactic(auto, unfolding(crate::specs::Input::expect, crate::specs::Input::after))]
+    /// Consumes this mark, which has to come next.
+    #[tactic(auto, unfolding(crate::specs::PartInput::expect, crate::specs::PartInput::after))]
     pub fn expect(&mut self, mark: Mark) -> Result<(), Stop>
         ensures { Reads (λ u. u) (spec.expect mark self.old) result self.new }
     {
@@ -230,25 +235,25 @@ impl<'a> Cursor<'a> {
     }
 
     /// The bytes of the next part, which is of this kind.
-    #[tactic(auto, unfolding(crate::specs::Input::part, crate::specs::Input::next))]
+    #[tactic(auto, unfolding(crate::specs::PartInput::part, crate::specs::PartInput::next))]
     pub fn part(&mut self, alloc: Global, kind: Kind) -> Result<Bytes, Stop>
         ensures { Reads (λ b. b) (spec.part kind self.old) result self.new }
     {
-        match self.rest {
-            [first, rest @ ..] => match bytes_in(kind, first) {
-                Some(bytes) => {
-                    let copy = bytes.copy(alloc)?;
-                    self.rest = rest;
-                    Ok(copy)
-                }
-                None => Err(Stop::Unread),
-            },
-            [] => Err(Stop::Unread),
+        let Some(first) = self.rest.first() else {
+            return Err(Stop::Unread);
+        };
+        match bytes_in(kind, first) {
+            Some(bytes) => {
+                let copy = bytes.copy(alloc)?;
+                self.rest.skip();
+                Ok(copy)
+            }
+            None => Err(Stop::Unread),
         }
     }
 
     /// The name of a sub: a name, or a text in quotes.
-    #[tactic(auto, unfolding(crate::specs::Input::sub_name))]
+    #[tactic(auto, unfolding(crate::specs::PartInput::sub_name))]
     pub fn sub_name(&mut self, alloc: Global) -> Result<Bytes, Stop>
         ensures { Reads (λ b. b) (spec.sub_name self.old) result self.new }
     {
@@ -261,7 +266,7 @@ impl<'a> Cursor<'a> {
     }
 
     /// A variable is named here.
-    #[tactic(auto, unfolding(crate::specs::Input::named))]
+    #[tactic(auto, unfolding(crate::specs::PartInput::named))]
     pub fn named(&mut self, alloc: Global, name: &[u8]) -> Result<(), Stop>
         ensures { Reads (λ u. u) (spec.noted (spec.named name.now) self.old) result self.new }
     {
@@ -272,7 +277,7 @@ impl<'a> Cursor<'a> {
     }
 
     /// A number out of its range stands here.
-    #[tactic(auto, unfolding(crate::specs::Input::exceeded))]
+    #[tactic(auto, unfolding(crate::specs::PartInput::exceeded))]
     pub fn exceeded(&mut self, number: Bytes)
         ensures { self.new ≡ spec.exceeded number self.old }
     {
@@ -282,7 +287,7 @@ impl<'a> Cursor<'a> {
     }
 
     /// So many brackets stand open here.
-    #[tactic(auto, unfolding(crate::specs::Input::opened))]
+    #[tactic(auto, unfolding(crate::specs::PartInput::opened))]
     pub fn opened(&mut self, brackets: usize)
         ensures { self.new ≡ spec.opened brackets self.old }
     {

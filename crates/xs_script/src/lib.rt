@@ -1,19 +1,21 @@
-//! Scripts: the commands that a caller of the compiled functions writes, and the text of plain values.
+//! Scripts: the commands that a caller of the compiled functions writes, and the text of plain
+//! values.
 #![tactic(auto)]
 
 mod around;
 mod command;
+mod command_reading;
+mod command_words;
 mod cursor;
-mod lexing;
-mod number;
-mod reading;
+mod line_part;
+mod line_parts;
 mod scope;
 mod script;
+mod script_number;
 mod stop;
 #[cfg(test)]
 mod tests;
 mod text;
-mod token;
 mod value;
 
 pub use command::{Action, Command, E, Number};

@@ -4,19 +4,23 @@ ghost use Rattle.std.specs.Prelude.{◌≡◌, ◌-◌, ◌<◌, ◌^◌, IfNone
 ghost use Rattle.xs_base.specs.Lines.{lines_of};
 ghost use Rattle.xs_base.specs.Reading.{GivesBy};
 ghost use Rattle.xs_base.specs.declared.fault.Fault.{Fault};
-ghost use Rattle.xs_script.specs.Expr.{Said};
-ghost use Rattle.xs_script.specs.Meaning.{LinesMean, Means};
+ghost use Rattle.xs_script.specs.CommandTree.{CommandView};
+ghost use Rattle.xs_script.specs.GrammarMeaning.{LinesMean, Means};
 ghost use Rattle.xs_script.specs.Script as spec;
-ghost use Rattle.xs_script.specs.View.{said, said_all};
+ghost use Rattle.xs_script.specs.CommandViews.{command_view, command_views};
 
 use crate::command::Command;
+use crate::command_reading::command;
 use crate::cursor::{Cursor, Met};
-use crate::lexing::tokens;
-use crate::reading::command;
+use crate::line_part::Stop;
+use crate::line_parts::tokens;
 use crate::scope::Scope;
-use crate::token::Stop;
 use crate::value::MAX_NESTING;
 use std::alloc::Global;
+use xs_base::fault_codes::{
+    BAD_SCRIPT_LINE, NAMED_TWICE_IN_SCRIPT, NUMBER_OUT_OF_RANGE, TOO_MANY_IN_SCRIPT,
+    UNKNOWN_VARIABLE, VALUE_TOO_DEEP,
+};
 use xs_base::{
     Bytes, Fault, FileOf, Items, Line, Memory, Refuse, is_among_names, is_blank_line, is_remark,
     lines,
@@ -42,10 +46,10 @@ fn empty_scope(alloc: Global) -> Scope
     }
 }
 
-// Takes what a command declares into the scope.
+// Adds what a command declares to the scope.
 fn enter(alloc: Global, scope: &mut Scope, command: &Command) -> Result<(), Memory>
     requires { scope.old.commands < spec.max_commands }
-    ensures { OnOk result (scope.new ≡ spec.behind (said command.now) scope.old) }
+    ensures { OnOk result (scope.new ≡ spec.scope_after (command_view command.now) scope.old) }
 {
     match command {
         Command::My(_, name, _) | Command::MyCall(_, name, _, _) => {
@@ -61,7 +65,7 @@ fn enter(alloc: Global, scope: &mut Scope, command: &Command) -> Result<(), Memo
 
 // The variable or the sub of this command, if it was declared before.
 fn twice<'a>(scope: &Scope, command: &'a Command) -> Option<&'a Bytes>
-    ensures { option_copied result ≡ spec.twice scope.now (said command.now) }
+    ensures { option_copied result ≡ spec.twice scope.now (command_view command.now) }
 {
     let (names, name) = match command {
         Command::My(_, name, _) | Command::MyCall(_, name, _, _) => (&scope.variables, name),
@@ -76,7 +80,7 @@ fn twice<'a>(scope: &Scope, command: &'a Command) -> Option<&'a Bytes>
 }
 
 fn is_full(scope: &Scope, command: &Command) -> bool
-    ensures full { result ≡ spec.is_full scope.now (said command.now) }
+    ensures full { result ≡ spec.is_full scope.now (command_view command.now) }
     ensures room { result ≡ false → scope.now.commands < spec.max_commands }
 {
     let is_over = match command {
@@ -98,7 +102,8 @@ fn first_fault(
     command: &Command,
     met: Met,
 ) -> Result<Option<Fault>, Memory>
-    ensures exact { IfOk result (λ found. found ≡ spec.first_fault scope.now line (said command.now) met) }
+    ensures exact { IfOk result (λ found. found
+        ≡ spec.first_fault scope.now line (command_view command.now) met) }
     ensures room { IfOk result (λ found. IfNone found (scope.now.commands < spec.max_commands)) }
 {
     let Met {
@@ -107,24 +112,29 @@ fn first_fault(
         deepest,
     } = met;
     if let Some(name) = unknown {
-        return Ok(Some(Fault::new(FileOf::Script, line, 952, name)));
+        return Ok(Some(Fault::new(FileOf::Script, line, UNKNOWN_VARIABLE, name)));
     }
     if let Some(name) = twice(scope, command) {
-        return Ok(Some(Fault::new(FileOf::Script, line, 953, name.copy(alloc)?)));
+        return Ok(Some(Fault::new(
+            FileOf::Script,
+            line,
+            NAMED_TWICE_IN_SCRIPT,
+            name.copy(alloc)?,
+        )));
     }
     if let Some(number) = beyond {
-        return Ok(Some(Fault::new(FileOf::Script, line, 954, number)));
+        return Ok(Some(Fault::new(FileOf::Script, line, NUMBER_OUT_OF_RANGE, number)));
     }
     if deepest > MAX_NESTING {
-        return Ok(Some(Fault::bare(alloc, FileOf::Script, line, 955)));
+        return Ok(Some(Fault::bare(alloc, FileOf::Script, line, VALUE_TOO_DEEP)));
     }
     if is_full(scope, command) {
-        return Ok(Some(Fault::bare(alloc, FileOf::Script, line, 956)));
+        return Ok(Some(Fault::bare(alloc, FileOf::Script, line, TOO_MANY_IN_SCRIPT)));
     }
     Ok(None)
 }
 
-/// Whether a line has no command: it is empty but for blanks, or a `#` stands behind its blanks.
+/// Whether a line has no command: it is empty but for blanks, or a `#` stands after its blanks.
 fn is_skipped(text: &[u8]) -> bool
     ensures { result ≡ spec.is_skipped text.now }
 {
@@ -134,8 +144,9 @@ fn is_skipped(text: &[u8]) -> bool
 /// The command of a line, if it has one, or its first fault.
 #[tactic(auto, unfolding(crate::specs::Script::line_of, crate::specs::Script::reading_of))]
 fn read_line(alloc: Global, scope: &Scope, line: &Line) -> Result<Option<Command>, Refuse>
-    ensures exact { GivesBy (option_map said) result (spec.line_of scope.now line.now) }
-    ensures room { IfOk result (λ found. IfSome found (λ _. scope.now.commands < spec.max_commands)) }
+    ensures exact { GivesBy (option_map command_view) result (spec.line_of scope.now line.now) }
+    ensures room { IfOk result
+        (λ found. IfSome found (λ _. scope.now.commands < spec.max_commands)) }
 {
     if is_skipped(line.text.as_slice()) {
         return Ok(None);
@@ -143,7 +154,12 @@ fn read_line(alloc: Global, scope: &Scope, line: &Line) -> Result<Option<Command
     let (found, met) = match reading(alloc, scope, line) {
         Ok(read) => read,
         Err(Stop::Unread) => {
-            return Err(Refuse::Fault(Fault::bare(alloc, FileOf::Script, line.number, 951)));
+            return Err(Refuse::Fault(Fault::bare(
+                alloc,
+                FileOf::Script,
+                line.number,
+                BAD_SCRIPT_LINE,
+            )));
         }
         Err(Stop::Memory) => return Err(Refuse::Memory),
     };
@@ -166,7 +182,7 @@ fn reading(alloc: Global, scope: &Scope, line: &Line) -> Result<(Command, Met), 
 
 fn commands(alloc: Global, src: &Bytes) -> Result<Vec<Command>, Refuse>
     requires { length src.now < 2 ^ 32 - 1 }
-    ensures { GivesBy said_all result (spec.script_of src.now) }
+    ensures { GivesBy command_views result (spec.script_of src.now) }
 {
     let all = lines(alloc, src)?;
     let mut scope = empty_scope(alloc);
@@ -180,22 +196,24 @@ fn commands(alloc: Global, src: &Bytes) -> Result<Vec<Command>, Refuse>
     Ok(out)
 }
 
-/// The commands of a script, in their order, or the first fault of the first line that has one: 951 where a line has no
-/// reading, 952 where a variable is not declared or was dropped, 953 where a variable or a sub is declared twice, 954 where
-/// a number is out of its range, 955 where brackets nest deeper than 16, and 956 where there are more than 10,000 commands,
-/// 256 variables or 256 subs. Of several faults of a line the one of the least code is given, and of these the leftmost.
-/// Empty lines and lines whose first byte behind blanks is `#` have no command.
+/// The commands of a script, in their order, or the first fault of the first line that has one: 951
+/// where a line has no reading, 952 where a variable is not declared or was dropped, 953 where a
+/// variable or a sub is declared twice, 954 where a number is out of its range, 955 where brackets
+/// nest deeper than 16, and 956 where there are more than 10,000 commands, 256 variables or 256
+/// subs. Of several faults of a line the one of the least code is given, and of these the leftmost.
+/// Empty lines and lines whose first byte after blanks is `#` have no command.
 pub fn read_script(alloc: Global, src: &Bytes) -> Result<Vec<Command>, Refuse>
     requires { length src.now < 2 ^ 32 - 1 }
 
     // Which commands or which fault it is.
-    ensures exact { GivesBy said_all result (spec.script_of src.now) }
+    ensures exact { GivesBy command_views result (spec.script_of src.now) }
 
     // The lines mean this by the rules of the grammar.
     ensures sound { Means result src.now }
 
     // What the lines mean by those rules is given, so that they mean one thing.
-    ensures complete { (r : Result (List Said) Fault) → LinesMean spec.empty_scope (lines_of src.now) r → GivesBy said_all result r }
+    ensures complete { (r : Result (List CommandView) Fault)
+        → LinesMean spec.empty_scope (lines_of src.now) r → GivesBy command_views result r }
 {
     commands(alloc, src)
 }

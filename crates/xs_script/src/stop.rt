@@ -1,8 +1,8 @@
-//! Want of memory in the readers of a line.
+//! Running out of memory in the readers of a line.
 ghost use Rattle.std.specs.Prelude.{◌≡◌};
-ghost use Rattle.xs_script.specs.declared.token.Stop.TheVariants as stop;
+ghost use Rattle.xs_script.specs.declared.line_part.Stop.TheVariants as stop;
 
-use crate::token::Stop;
+use crate::line_part::Stop;
 use xs_base::Memory;
 
 impl From<Memory> for Stop {

@@ -11,7 +11,7 @@ fn append_expr(alloc: Global, out: &mut Bytes, e: &E) -> Result<(), Memory> {
     match e {
         E::Undef => out.append(b"undef"),
         E::Number(Number::Int(n)) => out.append(value_text(alloc, &Plain::Int(*n))?.as_slice()),
-        E::Number(Number::Uns(n)) => out.append(value_text(alloc, &Plain::Uns(*n))?.as_slice()),
+        E::Number(Number::Uns(n)) => out.append(value_text(alloc, &Plain::from_uv(*n))?.as_slice()),
         E::Text(text) => out.append(quoted(alloc, text.as_slice())?.as_slice()),
         E::Variable(name) => out.append(name.as_slice()),
         E::Reference(name) => {
@@ -126,8 +126,9 @@ fn append_command(alloc: Global, out: &mut Bytes, command: &Command) -> Result<(
     }
 }
 
-// What a script reads as: its commands with `; ` between, or the line, the code and the word of its fault.
-fn told(alloc: Global, src: &Bytes) -> Result<Bytes, Memory>
+// What a script reads as: its commands with `; ` between, or the line, the code and the word of its
+// fault.
+fn read(alloc: Global, src: &Bytes) -> Result<Bytes, Memory>
     requires { length src.now < 2 ^ 32 - 1 }
 {
     let mut out = Bytes::new(alloc);
@@ -310,7 +311,7 @@ fn reads_the_table(rt: HostRuntime) -> Result<(), Fail> {
         };
         let src = script_of(rt.alloc(), &row[at + 1..])?;
         assert!(rt; src.len() < 1000);
-        let found = told(rt.alloc(), &src)?;
+        let found = read(rt.alloc(), &src)?;
         assert_eq!(rt; found.as_slice(), &row[..at]);
         rows = rows.wrapping_add(1);
     }

@@ -3,24 +3,26 @@ ghost use Rattle.std.specs.Char.{digit_char};
 ghost use Rattle.std.specs.Prelude.{◌≡◌, ◌++◌, ◌<◌, IfOk, OnOk, take};
 ghost use Rattle.xs_script.specs.ValueText.{quoted_text, shown_byte, value_text_of};
 
+use crate::command_words::UNDEF;
 use std::alloc::Global;
 use xs_base::{Bytes, Memory};
 use xs_values::{Plain, to_text};
 
-/// The text of a plain value: `undef`, a decimal number with a leading `-` where it is negative, or a text in quotes as
-/// `quoted` gives it.
+/// The text of a plain value: `undef`, a decimal number with a leading `-` where it is negative, or
+/// a text in quotes as `quoted` gives it.
 pub fn value_text(alloc: Global, p: &Plain) -> Result<Bytes, Memory>
     ensures { IfOk result (λ text. text ≡ value_text_of p.now) }
 {
     match p {
-        Plain::Undef => Bytes::from_slice(alloc, b"undef"),
+        Plain::Undef => Bytes::from_slice(alloc, UNDEF.as_bytes()),
         Plain::Int(_) | Plain::Uns(_) => to_text(alloc, p),
         Plain::Text(text) => quoted(alloc, text.as_slice()),
     }
 }
 
-/// A text in quotes: bytes 32 to 126 stand for themselves, but `"` and `\` have a `\` before them, and any other byte is
-/// `\x` and two digits in lower case. After 64 bytes of the text the quote closes and `..` follows.
+/// A text in quotes: bytes 32 to 126 stand for themselves, but `"` and `\` have a `\` before them,
+/// and any other byte is `\x` and two digits in lower case. After 64 bytes of the text the quote
+/// closes and `..` follows.
 pub fn quoted(alloc: Global, text: &[u8]) -> Result<Bytes, Memory>
     ensures { IfOk result (λ shown. shown ≡ quoted_text text.now) }
 {

@@ -1,23 +1,25 @@
 //! Expressions. Brackets are kept in a list, so that no line is too deep to read.
 ghost use Rattle.std.specs.Prelude.{◌≡◌, IfOk, map};
 ghost use Rattle.xs_script.specs.Brackets.{around_of, bracket};
-ghost use Rattle.xs_script.specs.Input.{Reads};
+ghost use Rattle.xs_script.specs.PartInput.{Reads};
 ghost use Rattle.xs_script.specs.Partial.{partial_of};
 ghost use Rattle.xs_script.specs.Value as spec;
-ghost use Rattle.xs_script.specs.View.{entry, plain};
+ghost use Rattle.xs_script.specs.CommandViews.{entry, expr_view};
 
 use crate::around::{Open, depth, pop_open};
 use crate::command::{E, Number};
+use crate::command_words::{ARG, UNDEF};
 use crate::cursor::Cursor;
-use crate::number::{argument_of, number_of};
-use crate::token::{Kind, Mark, Stop};
+use crate::line_part::{Kind, Mark, Stop};
+use crate::script_number::{argument_of, number_of};
 use std::alloc::Global;
 use xs_base::{Bytes, Memory, add};
 
 /// How many brackets may be open in an expression.
 pub const MAX_NESTING: usize = 16;
 
-/// An expression that is being read: the open brackets, and the expression that has ended right here, if one has.
+/// An expression that is being read: the open brackets, and the expression that has ended right
+/// here, if one has.
 #[derive(Drop)]
 pub struct Partial {
     pub around: Vec<Open>,
@@ -48,12 +50,12 @@ fn whole_number(alloc: Global, cursor: &mut Cursor<'_>) -> Result<Number, Stop>
     }
 }
 
-/// The number of an argument, behind the word `arg`.
+/// The number of an argument, after the word `arg`.
 #[tactic(auto, unfolding(crate::specs::Value::argument))]
 pub fn argument(alloc: Global, cursor: &mut Cursor<'_>) -> Result<u32, Stop>
     ensures { Reads (λ n. n) (spec.argument cursor.old) result cursor.new }
 {
-    if !cursor.eat_word(b"arg") {
+    if !cursor.eat_word(ARG.as_bytes()) {
         return Err(Stop::Unread);
     }
     let text = cursor.part(alloc, Kind::Number)?;
@@ -66,11 +68,11 @@ pub fn argument(alloc: Global, cursor: &mut Cursor<'_>) -> Result<u32, Stop>
     }
 }
 
-#[tactic(auto, using(crate::proofs::Views::views), unfolding(crate::specs::Value::by_name))]
+#[tactic(auto, using(crate::proofs::ValueViews::views), unfolding(crate::specs::Value::by_name))]
 fn by_name(alloc: Global, cursor: &mut Cursor<'_>, in_sub: bool) -> Result<E, Stop>
-    ensures { Reads plain (spec.by_name in_sub cursor.old) result cursor.new }
+    ensures { Reads expr_view (spec.by_name in_sub cursor.old) result cursor.new }
 {
-    if cursor.eat_word(b"undef") {
+    if cursor.eat_word(UNDEF.as_bytes()) {
         Ok(E::Undef)
     } else if in_sub {
         Ok(E::Argument(argument(alloc, cursor)?))
@@ -79,9 +81,9 @@ fn by_name(alloc: Global, cursor: &mut Cursor<'_>, in_sub: bool) -> Result<E, St
     }
 }
 
-#[tactic(auto, using(crate::proofs::Views::views), unfolding(crate::specs::Value::reference))]
+#[tactic(auto, using(crate::proofs::ValueViews::views), unfolding(crate::specs::Value::reference))]
 fn reference(alloc: Global, cursor: &mut Cursor<'_>, in_sub: bool) -> Result<E, Stop>
-    ensures { Reads plain (spec.reference in_sub cursor.old) result cursor.new }
+    ensures { Reads expr_view (spec.reference in_sub cursor.old) result cursor.new }
 {
     if in_sub {
         return Err(Stop::Unread);
@@ -91,9 +93,9 @@ fn reference(alloc: Global, cursor: &mut Cursor<'_>, in_sub: bool) -> Result<E, 
 }
 
 /// An expression without brackets.
-#[tactic(auto, using(crate::proofs::Views::views), unfolding(crate::specs::Value::simple))]
+#[tactic(auto, using(crate::proofs::ValueViews::views), unfolding(crate::specs::Value::simple))]
 fn simple(alloc: Global, cursor: &mut Cursor<'_>, in_sub: bool) -> Result<E, Stop>
-    ensures { Reads plain (spec.simple in_sub cursor.old) result cursor.new }
+    ensures { Reads expr_view (spec.simple in_sub cursor.old) result cursor.new }
 {
     match cursor.kind() {
         Kind::Name => by_name(alloc, cursor, in_sub),
@@ -105,9 +107,9 @@ fn simple(alloc: Global, cursor: &mut Cursor<'_>, in_sub: bool) -> Result<E, Sto
 }
 
 // A bracket has closed. What is nested too deep is not kept, since the line is at fault then.
-#[tactic(auto, using(crate::proofs::Views::views))]
+#[tactic(auto, using(crate::proofs::ValueViews::views))]
 fn finished(around: Vec<Open>, e: E) -> Partial
-    ensures { partial_of result ≡ spec.finished (around_of around.items) (plain e) }
+    ensures { partial_of result ≡ spec.finished (around_of around.items) (expr_view e) }
 {
     let kept = if depth(&around) < MAX_NESTING {
         e
@@ -123,7 +125,8 @@ fn finished(around: Vec<Open>, e: E) -> Partial
 // An expression begins in this bracket.
 #[tactic(auto, using(crate::proofs::Arounds::arounds))]
 fn inside(mut around: Vec<Open>, inner: Open) -> Result<Partial, Memory>
-    ensures { IfOk result (λ partial. partial_of partial ≡ spec.inside (bracket inner) (around_of around.items)) }
+    ensures { IfOk result (λ partial. partial_of partial
+        ≡ spec.inside (bracket inner) (around_of around.items)) }
 {
     add(&mut around, inner)?;
     Ok(Partial {
@@ -141,22 +144,25 @@ fn key(alloc: Global, cursor: &mut Cursor<'_>) -> Result<Bytes, Stop>
     Ok(name)
 }
 
-// A key, whose value begins behind the arrow.
+// A key, whose value begins after the arrow.
 fn keyed(
     alloc: Global,
     cursor: &mut Cursor<'_>,
     entries: Vec<(Bytes, E)>,
     around: Vec<Open>,
 ) -> Result<Partial, Stop>
-    ensures { Reads partial_of (spec.keyed (map entry entries.items) (around_of around.items) cursor.old) result cursor.new }
+    ensures { Reads partial_of
+        (spec.keyed (map entry entries.items) (around_of around.items) cursor.old) result
+        cursor.new }
 {
     let name = key(alloc, cursor)?;
     Ok(inside(around, Open::Hash(entries, name))?)
 }
 
-#[tactic(auto, using(crate::proofs::Views::views), unfolding(crate::specs::Value::in_square))]
+#[tactic(auto, using(crate::proofs::ValueViews::views), unfolding(crate::specs::Value::in_square))]
 fn in_square(alloc: Global, cursor: &mut Cursor<'_>, around: Vec<Open>) -> Result<Partial, Stop>
-    ensures { Reads partial_of (spec.in_square (around_of around.items) cursor.old) result cursor.new }
+    ensures { Reads partial_of (spec.in_square (around_of around.items) cursor.old) result
+        cursor.new }
 {
     cursor.opened(depth(&around) + 1);
     if cursor.eat(Mark::CloseSquare) {
@@ -166,9 +172,10 @@ fn in_square(alloc: Global, cursor: &mut Cursor<'_>, around: Vec<Open>) -> Resul
     }
 }
 
-#[tactic(auto, using(crate::proofs::Views::views), unfolding(crate::specs::Value::in_curly))]
+#[tactic(auto, using(crate::proofs::ValueViews::views), unfolding(crate::specs::Value::in_curly))]
 fn in_curly(alloc: Global, cursor: &mut Cursor<'_>, around: Vec<Open>) -> Result<Partial, Stop>
-    ensures { Reads partial_of (spec.in_curly (around_of around.items) cursor.old) result cursor.new }
+    ensures { Reads partial_of (spec.in_curly (around_of around.items) cursor.old) result
+        cursor.new }
 {
     cursor.opened(depth(&around) + 1);
     if cursor.eat(Mark::CloseCurly) {
@@ -179,14 +186,15 @@ fn in_curly(alloc: Global, cursor: &mut Cursor<'_>, around: Vec<Open>) -> Result
 }
 
 /// Where an expression begins.
-#[tactic(auto, using(crate::proofs::Views::views), unfolding(crate::specs::Value::begin))]
+#[tactic(auto, using(crate::proofs::ValueViews::views), unfolding(crate::specs::Value::begin))]
 fn begin(
     alloc: Global,
     cursor: &mut Cursor<'_>,
     in_sub: bool,
     around: Vec<Open>,
 ) -> Result<Partial, Stop>
-    ensures { Reads partial_of (spec.begin in_sub (around_of around.items) cursor.old) result cursor.new }
+    ensures { Reads partial_of (spec.begin in_sub (around_of around.items) cursor.old) result
+        cursor.new }
 {
     if cursor.eat(Mark::OpenSquare) {
         in_square(alloc, cursor, around)
@@ -201,9 +209,11 @@ fn begin(
     }
 }
 
-#[tactic(auto, using(crate::proofs::Views::views), unfolding(crate::specs::Value::follow_list))]
+#[tactic(auto, using(crate::proofs::ValueViews::views), unfolding(crate::specs::Value::follow_list))]
 fn follow_list(cursor: &mut Cursor<'_>, items: Vec<E>, around: Vec<Open>) -> Result<Partial, Stop>
-    ensures { Reads partial_of (spec.follow_list (map plain items.items) (around_of around.items) cursor.old) result cursor.new }
+    ensures { Reads partial_of
+        (spec.follow_list (map expr_view items.items) (around_of around.items) cursor.old) result
+        cursor.new }
 {
     if cursor.eat(Mark::Comma) {
         return Ok(inside(around, Open::List(items))?);
@@ -212,14 +222,16 @@ fn follow_list(cursor: &mut Cursor<'_>, items: Vec<E>, around: Vec<Open>) -> Res
     Ok(finished(around, E::List(items)))
 }
 
-#[tactic(auto, using(crate::proofs::Views::views), unfolding(crate::specs::Value::follow_hash))]
+#[tactic(auto, using(crate::proofs::ValueViews::views), unfolding(crate::specs::Value::follow_hash))]
 fn follow_hash(
     alloc: Global,
     cursor: &mut Cursor<'_>,
     entries: Vec<(Bytes, E)>,
     around: Vec<Open>,
 ) -> Result<Partial, Stop>
-    ensures { Reads partial_of (spec.follow_hash (map entry entries.items) (around_of around.items) cursor.old) result cursor.new }
+    ensures { Reads partial_of
+        (spec.follow_hash (map entry entries.items) (around_of around.items) cursor.old) result
+        cursor.new }
 {
     if cursor.eat(Mark::Comma) {
         return keyed(alloc, cursor, entries, around);
@@ -229,7 +241,7 @@ fn follow_hash(
 }
 
 /// Where an expression has ended in a bracket.
-#[tactic(auto, using(crate::proofs::Views::views))]
+#[tactic(auto, using(crate::proofs::ValueViews::views))]
 fn follow(
     alloc: Global,
     cursor: &mut Cursor<'_>,
@@ -237,7 +249,9 @@ fn follow(
     e: E,
     around: Vec<Open>,
 ) -> Result<Partial, Stop>
-    ensures { Reads partial_of (spec.follow (bracket inner) (plain e) (around_of around.items) cursor.old) result cursor.new }
+    ensures { Reads partial_of
+        (spec.follow (bracket inner) (expr_view e) (around_of around.items) cursor.old) result
+        cursor.new }
 {
     match inner {
         Open::List(mut items) => {
@@ -252,9 +266,9 @@ fn follow(
 }
 
 /// An expression, in a sub or outside.
-#[tactic(auto, using(crate::proofs::Views::views), unfolding(crate::specs::Value::value, crate::specs::Value::turns))]
+#[tactic(auto, using(crate::proofs::ValueViews::views), unfolding(crate::specs::Value::value, crate::specs::Value::turns))]
 pub fn value(alloc: Global, cursor: &mut Cursor<'_>, in_sub: bool) -> Result<E, Stop>
-    ensures { Reads plain (spec.value in_sub cursor.old) result cursor.new }
+    ensures { Reads expr_view (spec.value in_sub cursor.old) result cursor.new }
 {
     let mut partial = Partial {
         around: Vec::new(alloc),

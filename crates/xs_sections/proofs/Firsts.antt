@@ -1,10 +1,10 @@
--- The first of faults is one of them, and none is told before it.
+-- The first of faults is one of them, and none is reported before it.
 use Rattle.std.proofs.Common.{◌≡◌, ℕ, Bool, true, false, ◌&&◌, ◌||◌, ◌==◌, nat_lt, if◌then◌else◌, List, [], ◌∷◌, ◌⊎◌, inl, inr, All, Contains, Option, None, Some, fold, refl, sym, subst, ◌∙◌, arith}
 use Rattle.std.proofs.lemmas.Bool.Decides.{nat_tests}
 use Rattle.std.proofs.lemmas.Option.{same_Some}
 use Rattle.std.proofs.lemmas.List.Elements.{All-nil, All-cons, Contains-append_left, Contains-append_right, Contains-push}
 use Rattle.xs_base.specs.declared.fault.Fault.{Fault}
-use Rattle.xs_sections.specs.Faults.{is_before, earlier, first_of}
+use Rattle.xs_base.specs.Faults.{is_before, earlier, first_of}
 use Rattle.xs_sections.specs.Laws.{IsFirst}
 
 abbrev before : ℕ → ℕ → ℕ → ℕ → Bool
@@ -22,7 +22,7 @@ before_joined a b c d e f h k = grind (arith, nat_tests)
 abbrev NotBefore : Fault → Fault → Type 0
 NotBefore f g = is_before g f ≡ false
 
--- what the first fault of a list is, behind an older one
+-- what the first fault of a list is, after an older one
 record IsEarliest (old : Option Fault) (fs : List Fault) (f : Fault) : Type 0 where
   among : (old ≡ Some f) ⊎ Contains fs f
   not_old : (g : Fault) → old ≡ Some g → NotBefore f g

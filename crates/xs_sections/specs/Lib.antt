@@ -1,8 +1,8 @@
-pub mod Marks
+pub mod LineForms
 pub mod ModuleLine
 pub mod Keywords
 pub mod Classes
-pub mod Faults
+pub mod SectionFaults
 pub mod Cut
 pub mod Steps
 pub mod Laws

@@ -1,19 +1,10 @@
 //! What a line of an XS file is, and where it stands.
+use crate::sections::ModuleNames;
 use xs_base::Bytes;
-
-/// The names that a MODULE line sets.
-#[derive(Debug, Drop)]
-pub struct ModuleNames {
-    pub module: Bytes,
-    /// Empty without PACKAGE.
-    pub package: Bytes,
-    /// Empty without PREFIX.
-    pub prefix: Bytes,
-}
 
 /// What a line is. Each line of a file is one of these.
 #[derive(Debug, Drop)]
-pub enum Class {
+pub enum LineClass {
     /// The first line of POD.
     PodBegin,
     /// A further line of POD, but for its last.
@@ -44,7 +35,7 @@ pub enum Class {
     MapLine,
     /// The end word of a typemap block.
     MapEnd,
-    /// The first line of a paragraph behind its file keywords.
+    /// The first line of a paragraph after its file keywords.
     First,
     /// The same of a BOOT paragraph.
     FirstOfBoot,
@@ -56,18 +47,18 @@ pub enum Class {
 
 /// Where a line stands: what the lines before it leave open.
 #[derive(Debug, Drop)]
-pub enum Place {
+pub enum Region {
     /// In the C part: no MODULE line stands before.
     CPart,
     /// In the XS part, and in no paragraph.
     Between,
-    /// At the head of a paragraph, right behind a file keyword or a typemap block.
+    /// At the head of a paragraph, right after a file keyword or a typemap block.
     Head,
-    /// At the head of a paragraph, behind an empty line.
+    /// At the head of a paragraph, after an empty line.
     HeadGap,
-    /// In a paragraph, behind a line that is not empty.
+    /// In a paragraph, after a line that is not empty.
     Body,
-    /// In a paragraph, behind an empty line.
+    /// In a paragraph, after an empty line.
     BodyGap,
     /// In a BOOT paragraph.
     Boot,

@@ -2,108 +2,108 @@
 ghost use Rattle.std.specs.Prelude.{◌≡◌, IfOk};
 ghost use Rattle.xs_sections.specs.Classes as spec;
 
-use crate::class::{Class, Place};
+use crate::class::{LineClass, Region};
 use crate::keywords::head_class;
 use crate::marks::{begins_pod, ends_pod, is_directive, is_flush_left, is_module_line};
 use crate::module_line::module_class;
 use std::alloc::Global;
 use xs_base::{Memory, is_blank_line, is_remark};
 
-fn is_in_text(at: &Place) -> bool
+fn is_in_text(at: &Region) -> bool
     ensures { result ≡ spec.is_in_text at.now }
 {
-    matches!(at, Place::Body | Place::BodyGap | Place::Boot)
+    matches!(at, Region::Body | Region::BodyGap | Region::Boot)
 }
 
 /// Whether a new paragraph begins at a line that is not empty.
-fn opens_paragraph(at: &Place, text: &[u8]) -> bool
+fn opens_paragraph(at: &Region, text: &[u8]) -> bool
     ensures { result ≡ spec.opens_paragraph at.now text.now }
 {
     match at {
-        Place::Between => true,
-        Place::HeadGap | Place::BodyGap => is_flush_left(text),
+        Region::Between => true,
+        Region::HeadGap | Region::BodyGap => is_flush_left(text),
         _ => false,
     }
 }
 
-fn is_head(class: &Class) -> bool
+fn is_head(class: &LineClass) -> bool
     ensures { result ≡ spec.is_head class.now }
 {
     matches!(
         class,
-        Class::Keyword
-            | Class::BadValue
-            | Class::LeftOut(_)
-            | Class::MapBegin(_)
-            | Class::First
-            | Class::FirstOfBoot
+        LineClass::Keyword
+            | LineClass::BadValue
+            | LineClass::LeftOut(_)
+            | LineClass::MapBegin(_)
+            | LineClass::First
+            | LineClass::FirstOfBoot
     )
 }
 
 /// Whether a paragraph begins at a line of this class.
-pub fn starts_paragraph(at: &Place, class: &Class, text: &[u8]) -> bool
+pub fn starts_paragraph(at: &Region, class: &LineClass, text: &[u8]) -> bool
     ensures { result ≡ spec.starts_paragraph at.now class.now text.now }
 {
     is_head(class) && opens_paragraph(at, text)
 }
 
 /// What a line is.
-pub fn class_of(alloc: Global, in_pod: bool, at: &Place, text: &[u8]) -> Result<Class, Memory>
+pub fn class_of(alloc: Global, in_pod: bool, at: &Region, text: &[u8]) -> Result<LineClass, Memory>
     ensures { IfOk result (λ class. class ≡ spec.class_of in_pod at.now text.now) }
 {
     if in_pod {
         Ok(pod_class(text))
     } else if begins_pod(text) {
-        Ok(Class::PodBegin)
+        Ok(LineClass::PodBegin)
     } else {
         class_at(alloc, at, text)
     }
 }
 
-fn pod_class(text: &[u8]) -> Class
+fn pod_class(text: &[u8]) -> LineClass
     ensures { result ≡ spec.pod_class text.now }
 {
     if ends_pod(text) {
-        Class::PodEnd
+        LineClass::PodEnd
     } else {
-        Class::PodLine
+        LineClass::PodLine
     }
 }
 
 #[tactic(auto, unfolding(crate::specs::Classes::class_at))]
-fn class_at(alloc: Global, at: &Place, text: &[u8]) -> Result<Class, Memory>
+fn class_at(alloc: Global, at: &Region, text: &[u8]) -> Result<LineClass, Memory>
     ensures { IfOk result (λ class. class ≡ spec.class_at at.now text.now) }
 {
     match at {
-        Place::CPart => c_class(alloc, text),
-        Place::Map(end) => Ok(map_line_class(end.as_slice(), text)),
+        Region::CPart => c_class(alloc, text),
+        Region::Map(end) => Ok(map_line_class(end.as_slice(), text)),
         _ => xs_class(alloc, at, text),
     }
 }
 
-fn c_class(alloc: Global, text: &[u8]) -> Result<Class, Memory>
+fn c_class(alloc: Global, text: &[u8]) -> Result<LineClass, Memory>
     ensures { IfOk result (λ class. class ≡ spec.c_class text.now) }
 {
     if is_module_line(text) {
         module_class(alloc, text)
     } else {
-        Ok(Class::C)
+        Ok(LineClass::C)
     }
 }
 
-fn map_line_class(end: &[u8], text: &[u8]) -> Class
+fn map_line_class(end: &[u8], text: &[u8]) -> LineClass
     ensures { result ≡ spec.map_line_class end.now text.now }
 {
     if text == end {
-        Class::MapEnd
+        LineClass::MapEnd
     } else if is_remark(text) {
         comment_class(text)
     } else {
-        Class::MapLine
+        LineClass::MapLine
     }
 }
 
-fn xs_class(alloc: Global, at: &Place, text: &[u8]) -> Result<Class, Memory>
+fn xs_class(alloc: Global, at: &Region, text: &[u8]) -> Result<LineClass, Memory>
     ensures { IfOk result (λ class. class ≡ spec.xs_class at.now text.now) }
 {
     if is_remark(text) {
@@ -115,27 +115,27 @@ fn xs_class(alloc: Global, at: &Place, text: &[u8]) -> Result<Class, Memory>
     }
 }
 
-fn comment_class(text: &[u8]) -> Class
+fn comment_class(text: &[u8]) -> LineClass
     ensures { result ≡ spec.comment_class text.now }
 {
     if is_directive(text) {
-        Class::Directive
+        LineClass::Directive
     } else {
-        Class::Comment
+        LineClass::Comment
     }
 }
 
-fn paragraph_class(alloc: Global, at: &Place, text: &[u8]) -> Result<Class, Memory>
+fn paragraph_class(alloc: Global, at: &Region, text: &[u8]) -> Result<LineClass, Memory>
     ensures { IfOk result (λ class. class ≡ spec.paragraph_class at.now text.now) }
 {
     if is_blank_line(text) {
         Ok(if is_in_text(at) {
-            Class::Blank
+            LineClass::Blank
         } else {
-            Class::Outside
+            LineClass::Outside
         })
     } else if is_in_text(at) && !opens_paragraph(at, text) {
-        Ok(Class::Further)
+        Ok(LineClass::Further)
     } else {
         head_class(alloc, text)
     }

@@ -1,35 +1,26 @@
 //! File keywords, which stand at the head of a paragraph.
 ghost use Rattle.std.specs.Option.{option_copied};
 ghost use Rattle.std.specs.Prelude.{◌≡◌, IfOk};
-ghost use Rattle.xs_base.specs.Runs.{behind, front_of};
-ghost use Rattle.xs_base.specs.declared.runs.ByteClass.TheVariants.{Word};
+ghost use Rattle.xs_base.specs.ByteRuns.{after_run, front_of};
+ghost use Rattle.xs_base.specs.declared.byte_runs.ByteClass.TheVariants.{Word};
 ghost use Rattle.xs_sections.specs.Keywords as spec;
 
-use crate::class::Class;
+use crate::class::LineClass;
+use crate::words::{
+    BOOT, FALLBACK, FALLBACK_VALUES, LEFT_OUT, REQUIRE, SWITCH_VALUES, SWITCHES, TYPEMAP,
+};
 use std::alloc::Global;
 use xs_base::{
-    ByteClass, Bytes, Memory, after_word, begins_with, behind_blanks, cut_run, is_among,
-    is_blank_line, is_identifier,
+    ByteClass, Bytes, Memory, after_blanks, cut_run, is_among, is_blank_line, is_identifier,
+    starts_with, strip_prefix,
 };
 
-/// The file keywords that are left out.
-const LEFT_OUT: [&str; 8] = [
-    "INCLUDE",
-    "INCLUDE_COMMAND",
-    "INTERFACE",
-    "INTERFACE_MACRO",
-    "SCOPE",
-    "ATTRS",
-    "EXPORT_XSUB_SYMBOLS",
-    "SETMAGIC",
-];
-
 /// What a line is that may begin a paragraph.
-pub fn head_class(alloc: Global, line: &[u8]) -> Result<Class, Memory>
+pub fn head_class(alloc: Global, line: &[u8]) -> Result<LineClass, Memory>
     ensures { IfOk result (λ class. class ≡ spec.head_class line.now) }
 {
     let (word, more) = cut_run(ByteClass::Capital, line);
-    match behind_blanks(more) {
+    match after_blanks(more) {
         [] => Ok(text_class(line)),
         [first, value @ ..] => {
             if *first == b':' {
@@ -43,16 +34,16 @@ pub fn head_class(alloc: Global, line: &[u8]) -> Result<Class, Memory>
 
 /// What a line is that begins with a word, maybe blanks, `:` and a value.
 #[tactic(auto, unfolding(crate::specs::Keywords::word_class))]
-fn word_class(alloc: Global, word: &[u8], value: &[u8], line: &[u8]) -> Result<Class, Memory>
+fn word_class(alloc: Global, word: &[u8], value: &[u8], line: &[u8]) -> Result<LineClass, Memory>
     ensures { IfOk result (λ class. class ≡ spec.word_class word.now value.now line.now) }
 {
-    if word == b"PROTOTYPES".as_slice() || word == b"VERSIONCHECK".as_slice() {
+    if is_among(&SWITCHES, word) {
         Ok(value_class(is_switch(only_word(value))))
-    } else if word == b"REQUIRE".as_slice() {
+    } else if word == REQUIRE.as_bytes() {
         Ok(value_class(is_some_word(only_word(value))))
-    } else if word == b"FALLBACK".as_slice() {
+    } else if word == FALLBACK.as_bytes() {
         Ok(value_class(is_fallback(only_word(value))))
-    } else if word == b"TYPEMAP".as_slice() {
+    } else if word == TYPEMAP.as_bytes() {
         map_class(alloc, only_word(value))
     } else {
         left_out_class(alloc, word, value, line)
@@ -60,46 +51,51 @@ fn word_class(alloc: Global, word: &[u8], value: &[u8], line: &[u8]) -> Result<C
 }
 
 #[tactic(auto, unfolding(crate::specs::Keywords::left_out_class))]
-fn left_out_class(alloc: Global, word: &[u8], value: &[u8], line: &[u8]) -> Result<Class, Memory>
+fn left_out_class(
+    alloc: Global,
+    word: &[u8],
+    value: &[u8],
+    line: &[u8],
+) -> Result<LineClass, Memory>
     ensures { IfOk result (λ class. class ≡ spec.left_out_class word.now value.now line.now) }
 {
-    if is_among(&LEFT_OUT, word) && !begins_with(b":", value) {
+    if is_among(&LEFT_OUT, word) && !starts_with(b":", value) {
         let word = Bytes::from_slice(alloc, word)?;
-        Ok(Class::LeftOut(word))
+        Ok(LineClass::LeftOut(word))
     } else {
         Ok(text_class(line))
     }
 }
 
-fn text_class(line: &[u8]) -> Class
+fn text_class(line: &[u8]) -> LineClass
     ensures { result ≡ spec.text_class line.now }
 {
-    if begins_with(b"BOOT:", line) {
-        Class::FirstOfBoot
+    if starts_with(BOOT.as_bytes(), line) {
+        LineClass::FirstOfBoot
     } else {
-        Class::First
+        LineClass::First
     }
 }
 
-fn value_class(is_good: bool) -> Class
+fn value_class(is_good: bool) -> LineClass
     ensures { result ≡ spec.value_class is_good }
 {
     if is_good {
-        Class::Keyword
+        LineClass::Keyword
     } else {
-        Class::BadValue
+        LineClass::BadValue
     }
 }
 
 /// What a TYPEMAP line is, by its value.
-fn map_class(alloc: Global, value: &[u8]) -> Result<Class, Memory>
+fn map_class(alloc: Global, value: &[u8]) -> Result<LineClass, Memory>
     ensures { IfOk result (λ class. class ≡ spec.map_class (spec.block_end value.now)) }
 {
     match block_end(value) {
-        None => Ok(Class::BadValue),
+        None => Ok(LineClass::BadValue),
         Some(word) => {
             let end = Bytes::from_slice(alloc, word)?;
-            Ok(Class::MapBegin(end))
+            Ok(LineClass::MapBegin(end))
         }
     }
 }
@@ -108,7 +104,7 @@ fn map_class(alloc: Global, value: &[u8]) -> Result<Class, Memory>
 fn only_word(value: &[u8]) -> &[u8]
     ensures { result.now ≡ spec.only_word value.now }
 {
-    let (word, more) = cut_run(ByteClass::NoBlank, behind_blanks(value));
+    let (word, more) = cut_run(ByteClass::NoBlank, after_blanks(value));
     if is_blank_line(more) {
         word
     } else {
@@ -116,11 +112,12 @@ fn only_word(value: &[u8]) -> &[u8]
     }
 }
 
-/// The end word in the value of TYPEMAP: behind `<<`, alone or in quotes, and with `;` behind it or not.
+/// The end word in the value of TYPEMAP: after `<<`, alone or in quotes, and with `;` after it or
+/// not.
 fn block_end(value: &[u8]) -> Option<&[u8]>
     ensures { option_copied result ≡ spec.block_end value.now }
 {
-    let word = after_word(b"<<", value)?;
+    let word = strip_prefix(b"<<", value)?;
     end_word(word)
 }
 
@@ -141,7 +138,8 @@ fn end_word(text: &[u8]) -> Option<&[u8]>
 }
 
 fn quoted_word(quote: u8, text: &[u8]) -> Option<&[u8]>
-    ensures { option_copied result ≡ spec.quoted_word quote (front_of Word text.now) (behind Word text.now) }
+    ensures { option_copied result
+        ≡ spec.quoted_word quote (front_of Word text.now) (after_run Word text.now) }
 {
     let (word, more) = cut_run(ByteClass::Word, text);
     match more {
@@ -188,11 +186,11 @@ fn is_some_word(word: &[u8]) -> bool
 fn is_switch(word: &[u8]) -> bool
     ensures { result ≡ spec.is_switch word.now }
 {
-    is_among(&["ENABLE", "DISABLE"], word)
+    is_among(&SWITCH_VALUES, word)
 }
 
 fn is_fallback(word: &[u8]) -> bool
     ensures { result ≡ spec.is_fallback word.now }
 {
-    is_among(&["TRUE", "FALSE", "UNDEF"], word)
+    is_among(&FALLBACK_VALUES, word)
 }

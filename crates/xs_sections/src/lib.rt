@@ -6,11 +6,12 @@ mod classing;
 mod keywords;
 mod marks;
 mod module_line;
-mod reading;
+mod section_reading;
 mod sections;
 mod splitting;
 #[cfg(test)]
 mod tests;
+mod words;
 
-pub use sections::{Part, PartBody, Sections};
+pub use sections::{ModuleNames, Part, PartBody, Sections};
 pub use splitting::split;

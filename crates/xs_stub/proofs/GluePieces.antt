@@ -4,15 +4,15 @@ use Rattle.std.specs.Fmt.{decimal}
 use Rattle.std.specs.List.{flat_map, join_by}
 use Rattle.xs_ctok.specs.Pieces as piece
 use Rattle.xs_ctok.specs.Pieces.{Piece, Plain, Name, Bare, Blank, spelled}
-use Rattle.xs_base.specs.declared.place.Line.{Line}
+use Rattle.xs_base.specs.declared.source.Line.{Line}
 use Rattle.xs_iface.specs.declared.xsub.Module.{Module}
 use Rattle.xs_iface.specs.declared.xsub.Param.{Param}
 use Rattle.xs_iface.specs.declared.xsub.Term.{Term}
 use Rattle.xs_iface.specs.declared.xsub.Xsub.{Xsub}
 use Rattle.xs_iface.specs.Iface.{underscored}
-use Rattle.xs_stub.specs.Stub.{c_line_text, declaration_text, input_text, inputs_text, name_of, placed, term_text, head_text, work_text, end_text, xsub_text, registration_text, boot_text, glue_text}
+use Rattle.xs_stub.specs.Stub.{c_line_text, declaration_text, input_text, inputs_text, name_of, indexed, term_text, head_text, work_text, end_text, xsub_text, registration_text, boot_text, glue_text}
 
--- The pieces spell the text, whatever stands behind it.
+-- The pieces spell the text, whatever stands after it.
 record Spells (text : List ℕ) (ps : List Piece) : Type 0 where
   onto : (qs : List Piece) → text ++ spelled qs ≡ spelled (ps ++ qs)
 
@@ -50,17 +50,17 @@ whole {t = t} {ps = ps} s = sym (append-nil t) ∙ s.onto [] ∙ ap spelled (app
 
 -- ---- names with a separator between them
 
-abbrev pub behind_separator : {X : Type 0} → List ℕ → (X → List ℕ) → X → List Piece
-behind_separator separator text x = Plain separator ∷ Name (text x) ∷ []
+abbrev pub after_separator : {X : Type 0} → List ℕ → (X → List ℕ) → X → List Piece
+after_separator separator text x = Plain separator ∷ Name (text x) ∷ []
 
 abbrev pub joined_pieces : {X : Type 0} → List ℕ → (X → List ℕ) → List X → List Piece
 joined_pieces separator text [] = []
-joined_pieces separator text (x ∷ xs) = Name (text x) ∷ flat_map (behind_separator separator text) xs
+joined_pieces separator text (x ∷ xs) = Name (text x) ∷ flat_map (after_separator separator text) xs
 
 joined_spelled : {X : Type 0} (separator : List ℕ) (text : X → List ℕ) (xs : List X) → Spells (join_by text separator xs) (joined_pieces separator text xs)
 joined_spelled separator text [] = nothing
 joined_spelled separator text (x ∷ xs) =
-    joined (name (text x)) (all_joined (λ y. separator ++ text y) (behind_separator separator text) (λ y. joined (plain separator) (name (text y))) xs)
+    joined (name (text x)) (all_joined (λ y. separator ++ text y) (after_separator separator text) (λ y. joined (plain separator) (name (text y))) xs)
 
 abbrev pub names_pieces : List Param → List Piece
 names_pieces params = joined_pieces (codes ", ") name_of params
@@ -75,18 +75,20 @@ unfolding declaration_text
 declaration_spelled p = joined (plain (codes "        int ")) (joined (name p.name) (joined (plain (codes ";\n")) nothing))
 
 abbrev pub input_pieces : ℕ → Param → List Piece
-input_pieces place p = Plain (codes "        ") ∷ Name p.name ∷ Plain (codes " = (int)SvIV(ST(") ∷ Name (decimal place) ∷ Plain (codes "));\n") ∷ []
+input_pieces index p = Plain (codes "        ") ∷ Name p.name ∷ Plain (codes " = (int)SvIV(ST(") ∷ Name (decimal index) ∷ Plain (codes "));\n") ∷ []
 
-input_spelled : (place : ℕ) (p : Param) → Spells (input_text place p) (input_pieces place p)
+input_spelled : (index : ℕ) (p : Param) → Spells (input_text index p) (input_pieces index p)
 unfolding input_text
-input_spelled place p = joined (plain (codes "        ")) (joined (name p.name) (joined (plain (codes " = (int)SvIV(ST(")) (joined (name (decimal place)) (joined (plain (codes "));\n")) nothing))))
+input_spelled index p =
+    joined (plain (codes "        "))
+    (joined (name p.name) (joined (plain (codes " = (int)SvIV(ST(")) (joined (name (decimal index)) (joined (plain (codes "));\n")) nothing))))
 
 abbrev pub inputs_pieces : ℕ → List Param → List Piece
-inputs_pieces = placed input_pieces
+inputs_pieces = indexed input_pieces
 
-inputs_spelled : (place : ℕ) (ps : List Param) → Spells (inputs_text place ps) (inputs_pieces place ps)
-inputs_spelled place [] = nothing
-inputs_spelled place (p ∷ ps) = joined (input_spelled place p) (inputs_spelled (place + 1) ps)
+inputs_spelled : (index : ℕ) (ps : List Param) → Spells (inputs_text index ps) (inputs_pieces index ps)
+inputs_spelled index [] = nothing
+inputs_spelled index (p ∷ ps) = joined (input_spelled index p) (inputs_spelled (index + 1) ps)
 
 -- ---- the sum
 
@@ -97,25 +99,31 @@ sum_pieces params terms = joined_pieces (codes " + ") (term_text params) terms
 
 abbrev pub head_pieces : Xsub → List Piece
 head_pieces x =
-    Plain (codes "\nXS(") ∷ Name x.glue ∷ Plain (codes ")\n{\n    dXSARGS;\n    if (items != ") ∷ Name (decimal (length x.params)) ∷ Plain (codes ")\n        croak_xs_usage(cv, \"")
+    Plain (codes "\nXS(") ∷ Name x.glue ∷ Plain (codes ")\n{\n    dXSARGS;\n    if (items != ") ∷ Name (decimal (length x.params))
+    ∷ Plain (codes ")\n        croak_xs_usage(cv, \"")
     ∷ names_pieces x.params ++ Plain (codes "\");\n    {\n") ∷ []
 
 head_spelled : (x : Xsub) → Spells (head_text x) (head_pieces x)
 unfolding head_text
 head_spelled x =
-    joined (plain (codes "\nXS(")) (joined (name x.glue) (joined (plain (codes ")\n{\n    dXSARGS;\n    if (items != ")) (joined (name (decimal (length x.params)))
-    (joined (plain (codes ")\n        croak_xs_usage(cv, \"")) (joined (joined_spelled (codes ", ") name_of x.params) (joined (plain (codes "\");\n    {\n")) nothing))))))
+    joined (plain (codes "\nXS("))
+    (joined (name x.glue) (joined (plain (codes ")\n{\n    dXSARGS;\n    if (items != ")) (joined (name (decimal (length x.params)))
+    (joined (plain (codes ")\n        croak_xs_usage(cv, \""))
+    (joined (joined_spelled (codes ", ") name_of x.params) (joined (plain (codes "\");\n    {\n")) nothing))))))
 
 abbrev pub work_pieces : Xsub → List Piece
 work_pieces x =
     flat_map declaration_pieces x.params
-    ++ (Plain (codes "        int RETVAL;\n        SV *RETVALSV;\n") ∷ (inputs_pieces 0 x.params ++ (Blank x.indent ∷ Plain (codes "RETVAL = ") ∷ (sum_pieces x.params x.sum ++ Plain (codes ";\n") ∷ []))))
+    ++ (Plain (codes "        int RETVAL;\n        SV *RETVALSV;\n")
+    ∷ (inputs_pieces 0 x.params ++ (Blank x.indent ∷ Plain (codes "RETVAL = ") ∷ (sum_pieces x.params x.sum ++ Plain (codes ";\n") ∷ []))))
 
 work_spelled : (x : Xsub) → Spells (work_text x) (work_pieces x)
 unfolding work_text
 work_spelled x =
     joined (all_joined declaration_text declaration_pieces declaration_spelled x.params) (joined (plain (codes "        int RETVAL;\n        SV *RETVALSV;\n"))
-    (joined (inputs_spelled 0 x.params) (joined (blank x.indent) (joined (plain (codes "RETVAL = ")) (joined (joined_spelled (codes " + ") (term_text x.params) x.sum) (joined (plain (codes ";\n")) nothing))))))
+    (joined (inputs_spelled 0 x.params)
+    (joined (blank x.indent)
+    (joined (plain (codes "RETVAL = ")) (joined (joined_spelled (codes " + ") (term_text x.params) x.sum) (joined (plain (codes ";\n")) nothing))))))
 
 abbrev pub xsub_pieces : Xsub → List Piece
 xsub_pieces x = head_pieces x ++ (work_pieces x ++ Plain end_text ∷ [])
@@ -131,11 +139,14 @@ registration_pieces x = Plain (codes "    newXS_deffile(\"") ∷ Bare x.full ∷
 
 registration_spelled : (x : Xsub) → Spells (registration_text x) (registration_pieces x)
 unfolding registration_text
-registration_spelled x = joined (plain (codes "    newXS_deffile(\"")) (joined (bare x.full) (joined (plain (codes "\", ")) (joined (name x.glue) (joined (plain (codes ");\n")) nothing))))
+registration_spelled x =
+    joined (plain (codes "    newXS_deffile(\""))
+    (joined (bare x.full) (joined (plain (codes "\", ")) (joined (name x.glue) (joined (plain (codes ");\n")) nothing))))
 
 abbrev pub boot_pieces : Module → List Piece
 boot_pieces m =
-    Plain (codes "\nXS(boot_") ∷ Name (underscored m.boot) ∷ Plain (codes ")\n{\n    dXSARGS;\n") ∷ flat_map registration_pieces m.xsubs ++ Plain (codes "    XSRETURN_YES;\n}\n") ∷ []
+    Plain (codes "\nXS(boot_") ∷ Name (underscored m.boot) ∷ Plain (codes ")\n{\n    dXSARGS;\n") ∷ flat_map registration_pieces m.xsubs
+    ++ Plain (codes "    XSRETURN_YES;\n}\n") ∷ []
 
 boot_spelled : (m : Module) → Spells (boot_text m) (boot_pieces m)
 unfolding boot_text
@@ -153,7 +164,9 @@ c_line_spelled line = record { onto = λ qs. refl }
 abbrev pub glue_pieces : Module → List Piece
 glue_pieces m = Plain (codes "/* xsubpp glue, data model LP64 */\n") ∷ (flat_map c_line_pieces m.c_part ++ (flat_map xsub_pieces m.xsubs ++ boot_pieces m))
 
-glue_spelled : (m : Module) → Spells (glue_text m) (Plain (codes "/* xsubpp glue, data model LP64 */\n") ∷ (flat_map c_line_pieces m.c_part ++ (flat_map xsub_pieces m.xsubs ++ (boot_pieces m ++ []))))
+glue_spelled : (m : Module)
+    → Spells (glue_text m) (Plain (codes "/* xsubpp glue, data model LP64 */\n")
+    ∷ (flat_map c_line_pieces m.c_part ++ (flat_map xsub_pieces m.xsubs ++ (boot_pieces m ++ []))))
 unfolding glue_text
 glue_spelled m =
     joined (plain (codes "/* xsubpp glue, data model LP64 */\n")) (joined (all_joined c_line_text c_line_pieces c_line_spelled m.c_part)
@@ -163,4 +176,5 @@ glue_spelled m =
 pub text_in_pieces : (m : Module) → glue_text m ≡ spelled (glue_pieces m)
 text_in_pieces m =
     whole (glue_spelled m)
-    ∙ ap (λ (ps : List Piece). spelled (Plain (codes "/* xsubpp glue, data model LP64 */\n") ∷ (flat_map c_line_pieces m.c_part ++ (flat_map xsub_pieces m.xsubs ++ ps)))) (append-nil (boot_pieces m))
+    ∙ ap (λ (ps : List Piece). spelled (Plain (codes "/* xsubpp glue, data model LP64 */\n")
+    ∷ (flat_map c_line_pieces m.c_part ++ (flat_map xsub_pieces m.xsubs ++ ps)))) (append-nil (boot_pieces m))

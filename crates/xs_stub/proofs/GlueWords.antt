@@ -6,24 +6,24 @@ use Rattle.std.specs.List.{list_all}
 use Rattle.std.specs.Prelude.{◌==◌, if◌then◌else◌, slice_get}
 use Rattle.xs_base.proofs.AllPass.{all-weaker}
 use Rattle.xs_base.proofs.Qualified.{first_in_word, qualified_bytes}
-use Rattle.xs_base.specs.Names.{is_among, is_qualified_name}
-use Rattle.xs_base.specs.Runs.{belongs}
-use Rattle.xs_base.specs.Scanning.{begins_word, is_digit, is_identifier, is_word_byte}
-use Rattle.xs_base.specs.declared.runs.ByteClass.TheVariants.{Name}
-use Rattle.xs_ctok.specs.declared.token.Sort.{Sort}
-use Rattle.xs_ctok.specs.declared.token.Sort.TheVariants as sort
+use Rattle.xs_base.specs.Names.{is_qualified_name}
+use Rattle.xs_base.specs.ByteRuns.{belongs}
+use Rattle.xs_base.specs.Scanning.{begins_word, is_ascii_digit, is_identifier, is_word_byte}
+use Rattle.xs_base.specs.declared.byte_runs.ByteClass.TheVariants.{Name}
+use Rattle.xs_ctok.specs.declared.token.TokKind.{TokKind}
+use Rattle.xs_ctok.specs.declared.token.TokKind.TheVariants as kind
 use Rattle.xs_ctok.specs.Pieces.{IsName, IsBare, is_bare_byte}
-use Rattle.xs_ctok.specs.Words.{is_key_word, sort_word}
+use Rattle.xs_ctok.specs.CWords.{is_key_word, word_kind}
 use Rattle.xs_base.specs.Readers.{head_is}
 use Rattle.xs_base.proofs.WordBytes.{digit_not_word}
-use Rattle.xs_ctok.proofs.Running.{bare_if}
-use Rattle.xs_ctok.proofs.Values.{is_name_decimal, sort_word_decimal, sort_word_name}
+use Rattle.xs_ctok.proofs.LexemeRuns.{bare_if}
+use Rattle.xs_ctok.proofs.WordKinds.{is_name_decimal, word_kind_decimal, word_kind_name}
 use Rattle.xs_iface.specs.declared.xsub.Term.{Term}
 use Rattle.xs_iface.specs.declared.xsub.Term.TheVariants.{Literal, Parameter}
 use Rattle.xs_iface.specs.declared.xsub.Param.{Param}
 use Rattle.xs_iface.specs.declared.xsub.Xsub.{Xsub}
 use Rattle.xs_iface.specs.Iface.{underscored}
-use Rattle.xs_iface.specs.Words.{is_free, is_reserved, reserved_words}
+use Rattle.xs_iface.specs.ReservedWords.{is_free, is_reserved}
 use Rattle.std.specs.List.{AllByRecursion as All}
 use Rattle.xs_iface.specs.SumForm.{IsSumXsub, IsTermOf}
 use Rattle.xs_iface.proofs.NameBytes.{underscored_bytes}
@@ -31,20 +31,20 @@ use Rattle.xs_stub.specs.Stub.{name_or_nothing, term_text}
 
 -- ---- identifiers
 
--- a name with this sort
-pub record IsWordOf (s : Sort) (name : List ℕ) : Type 0 where
+-- a name of this kind
+pub record IsWordOf (s : TokKind) (name : List ℕ) : Type 0 where
   pub is_name : IsName name
-  pub sort : sort_word name ≡ Some s
+  pub kind : word_kind name ≡ Some s
 
 no_key_word : (word : List ℕ) → is_reserved word ≡ false → is_key_word word ≡ false
-no_key_word word h = (or_parts (is_key_word word) (is_among reserved_words word) h).0
+no_key_word word h = (or_parts (is_key_word word) _ h).0
 
 record IsWord (name : List ℕ) : Type 0 where
   is_name : IsName name
-  no_digit : head_is is_digit name ≡ false
+  no_digit : head_is is_ascii_digit name ≡ false
 
-no_digit_first : (b : ℕ) → begins_word b ≡ true → is_digit b ≡ false
-no_digit_first b h = false_from_ne_true (is_digit b) (λ digit. both_ways (begins_word b) (digit_not_word b digit) h)
+no_digit_first : (b : ℕ) → begins_word b ≡ true → is_ascii_digit b ≡ false
+no_digit_first b h = false_from_ne_true (is_ascii_digit b) (λ digit. both_ways (begins_word b) (digit_not_word b digit) h)
 
 identifier_is_word : (name : List ℕ) → is_identifier name ≡ true → IsWord name
 identifier_is_word [] h = absurd cc
@@ -53,11 +53,11 @@ identifier_is_word (b ∷ bs) h =
     let all : list_all is_word_byte (b ∷ bs) ≡ true = and_from (is_word_byte b) (list_all is_word_byte bs) (first_in_word b g.0) g.1 in
     record { is_name = record { head = b; tail = bs; is = refl; bytes = all }; no_digit = no_digit_first b g.0 }
 
-pub free_name : (name : List ℕ) → is_free name ≡ true → IsWordOf sort.Name name
+pub free_name : (name : List ℕ) → is_free name ≡ true → IsWordOf kind.Name name
 free_name name h =
     let g = and_parts (is_identifier name) (not (is_reserved name)) h in
     let w = identifier_is_word name g.0 in
-    record { is_name = w.is_name; sort = sort_word_name name w.no_digit (no_key_word name (not-true (is_reserved name) g.1)) }
+    record { is_name = w.is_name; kind = word_kind_name name w.no_digit (no_key_word name (not-true (is_reserved name) g.1)) }
 
 -- ---- package names
 
@@ -71,32 +71,34 @@ boot_is_name (b ∷ bs) h =
 pub full_is_bare : (x : Xsub) → IsSumXsub x → IsBare x.full
 full_is_bare x f = record { bytes = all-weaker (belongs Name) is_bare_byte (bare_if (belongs Name) refl refl refl) x.full f.full_bytes }
 
-glue_word : (tail : List ℕ) → list_all is_word_byte tail ≡ true → IsWordOf sort.Name (codes "XS_" ++ tail)
-unfolding sort_word
-glue_word tail h = record { is_name = record { head = 88; tail = 83 ∷ 95 ∷ tail; is = refl; bytes = h }; sort = refl }
+glue_word : (tail : List ℕ) → list_all is_word_byte tail ≡ true → IsWordOf kind.Name (codes "XS_" ++ tail)
+unfolding word_kind
+glue_word tail h = record { is_name = record { head = 88; tail = 83 ∷ 95 ∷ tail; is = refl; bytes = h }; kind = refl }
 
 -- The name of the glue function is a name.
-pub glue_is_word : (x : Xsub) → IsSumXsub x → IsWordOf sort.Name x.glue
-glue_is_word x f = subst (IsWordOf sort.Name) (sym f.glue) (glue_word f.tail f.tail_bytes)
+pub glue_is_word : (x : Xsub) → IsSumXsub x → IsWordOf kind.Name x.glue
+glue_is_word x f = subst (IsWordOf kind.Name) (sym f.glue) (glue_word f.tail f.tail_bytes)
 
 -- ---- parameters and terms
 
 fits : (value : ℕ) → value ≤ 2147483647 → value < 2 ^ 64
 fits value h = omega arith
 
-pub decimal_word : (value : ℕ) → value ≤ 2147483647 → IsWordOf (sort.Numeral value) (decimal value)
-decimal_word value h = record { is_name = is_name_decimal value (fits value h); sort = sort_word_decimal value (fits value h) }
+pub decimal_word : (value : ℕ) → value ≤ 2147483647 → IsWordOf (kind.Numeral value) (decimal value)
+decimal_word value h = record { is_name = is_name_decimal value (fits value h); kind = word_kind_decimal value (fits value h) }
 
--- the sort of a term
-abbrev pub sort_of_term : Term → Sort
-sort_of_term (Parameter at) = sort.Name
-sort_of_term (Literal value) = sort.Numeral value
+-- the kind of a term
+abbrev pub kind_of_term : Term → TokKind
+kind_of_term (Parameter at) = kind.Name
+kind_of_term (Literal value) = kind.Numeral value
 
-at_place : (params : List Param) → All (λ p. is_free p.name ≡ true) params → (at : ℕ) → at < length params → IsWordOf sort.Name (name_or_nothing (slice_get params at))
-at_place [] free at h = absurd (omega (arith, h))
-at_place (p ∷ ps) free zero h = free_name p.name free.0
-at_place (p ∷ ps) free (suc at) h = at_place ps free.1 at (omega (arith, h))
+at_index : (params : List Param) → All (λ p. is_free p.name ≡ true) params → (at : ℕ) → at < length params
+    → IsWordOf kind.Name (name_or_nothing (slice_get params at))
+at_index [] free at h = absurd (omega (arith, h))
+at_index (p ∷ ps) free zero h = free_name p.name free.0
+at_index (p ∷ ps) free (suc at) h = at_index ps free.1 at (omega (arith, h))
 
-pub term_word : (params : List Param) → All (λ p. is_free p.name ≡ true) params → (t : Term) → IsTermOf (length params) t → IsWordOf (sort_of_term t) (term_text params t)
-term_word params free (Parameter at) h = at_place params free at h
+pub term_word : (params : List Param) → All (λ p. is_free p.name ≡ true) params → (t : Term) → IsTermOf (length params) t
+    → IsWordOf (kind_of_term t) (term_text params t)
+term_word params free (Parameter at) h = at_index params free at h
 term_word params free (Literal value) h = decimal_word value h

@@ -1,4 +1,4 @@
--- Texts one behind the other, each told by an equation.
+-- Texts one after the other, each given by an equation.
 use Rattle.std.proofs.Common.{◌≡◌, ℕ, List, [], ◌∷◌, refl, ap, ap₂, ◌∙◌}
 use Rattle.std.specs.List.{concat}
 
@@ -12,5 +12,5 @@ infixr 5 ◌then◌
 pub ◌then◌ : {t u : List ℕ} {ts us : List (List ℕ)} → t ≡ u → ts ≡ us → t ∷ ts ≡ u ∷ us
 e then f = ap₂ ◌∷◌ e f
 
-pub all_told : {t : List ℕ} {ts us : List (List ℕ)} → ts ≡ us → t ≡ concat ts → t ≡ concat us
-all_told same told = told ∙ ap concat same
+pub all_joined : {t : List ℕ} {ts us : List (List ℕ)} → ts ≡ us → t ≡ concat ts → t ≡ concat us
+all_joined same tokens_are = tokens_are ∙ ap concat same

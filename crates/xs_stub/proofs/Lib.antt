@@ -1,9 +1,9 @@
 pub mod Joining
 pub mod GluePieces
 pub mod GlueWords
-pub mod Cuts
+pub mod PieceCuts
 pub mod Standing
-pub mod Sums
-pub mod Statements
+pub mod SumsStand
+pub mod StatementsStand
 pub mod GlueFunctions
 pub mod ReadBack

@@ -3,17 +3,17 @@ use Rattle.std.proofs.Common.{◌≡◌, ℕ, ◌≤◌, List, [], ◌∷◌, �
 use Rattle.std.proofs.Math.Nat.{max-le}
 use Rattle.std.specs.List.{flat_map}
 use Rattle.xs_ctok.specs.declared.token.Token.{Token}
-use Rattle.xs_csyn.specs.Grammar as g
-use Rattle.xs_csyn.specs.Grammar.{Declaration, File, Is, Parts, Statement}
+use Rattle.xs_csyn.specs.GlueGrammar as g
+use Rattle.xs_csyn.specs.GlueGrammar.{Declaration, File, Is, Parts, Statement}
 use Rattle.xs_csyn.specs.Heights.{AreWithin, depth, depths, tallest, tallest_of}
 use Rattle.xs_ctok.specs.Pieces.{Piece}
-use Rattle.xs_csyn.specs.Tree.{ItemTree, MoreStmts, NoStmts, StmtTree, StmtTrees, stmts_of, unlined_item, unlined_stmt, unlined_stmts}
+use Rattle.xs_csyn.specs.SyntaxTree.{ItemTree, MoreStmts, NoStmts, StmtTree, StmtTrees, stmts_of, unlined_item, unlined_stmt, unlined_stmts}
 use Rattle.std.specs.List.{AllByRecursion as All}
-use Rattle.xs_stub.proofs.Cuts.{Cut, fresh, joined, nothing_cut}
+use Rattle.xs_stub.proofs.PieceCuts.{Cut, fresh, joined, nothing_cut}
 
 -- ---- statements
 
--- Up to behind the closing brace stand statements, which are these but for lines. They hold at most so many blocks and ifs in each other.
+-- Up to after the closing brace stand statements, which are these but for lines. They hold at most so many blocks and ifs in each other.
 pub record Body (deep : ℕ) (all : List StmtTree) (ts us : List Token) : Type 0 where
   pub body : StmtTrees
   pub parts : Parts body ts us
@@ -31,7 +31,8 @@ statement_first stands more vs parts = g.stated stands parts
 declaration_first : {s : StmtTree} {ts us : List Token} → Declaration s ts us → IsFirst s ts us
 declaration_first stands more vs parts = g.declared stands parts
 
-with_first : {deep : ℕ} {rest : List StmtTree} {ts us vs : List Token} (s meant : StmtTree) → IsFirst s ts us → unlined_stmt s ≡ unlined_stmt meant → depth s ≤ deep → tallest s ≤ 64
+with_first : {deep : ℕ} {rest : List StmtTree} {ts us vs : List Token} (s meant : StmtTree) → IsFirst s ts us → unlined_stmt s ≡ unlined_stmt meant
+    → depth s ≤ deep → tallest s ≤ 64
     → Body deep rest us vs → Body deep (meant ∷ rest) ts vs
 with_first {deep = deep} {vs = vs} s meant first same flat low more = record {
   body = MoreStmts s more.body;
@@ -41,11 +42,13 @@ with_first {deep = deep} {vs = vs} s meant first same flat low more = record {
   low = max-le low more.low;
 }
 
-pub stated : {deep : ℕ} {rest : List StmtTree} {ts us vs : List Token} (s meant : StmtTree) → Statement s ts us → unlined_stmt s ≡ unlined_stmt meant → depth s ≤ deep → tallest s ≤ 64
+pub stated : {deep : ℕ} {rest : List StmtTree} {ts us vs : List Token} (s meant : StmtTree) → Statement s ts us → unlined_stmt s ≡ unlined_stmt meant
+    → depth s ≤ deep → tallest s ≤ 64
     → Body deep rest us vs → Body deep (meant ∷ rest) ts vs
 stated s meant stands same flat low more = with_first s meant (statement_first stands) same flat low more
 
-pub declared : {deep : ℕ} {rest : List StmtTree} {ts us vs : List Token} (s meant : StmtTree) → Declaration s ts us → unlined_stmt s ≡ unlined_stmt meant → depth s ≤ deep → tallest s ≤ 64
+pub declared : {deep : ℕ} {rest : List StmtTree} {ts us vs : List Token} (s meant : StmtTree) → Declaration s ts us → unlined_stmt s ≡ unlined_stmt meant
+    → depth s ≤ deep → tallest s ≤ 64
     → Body deep rest us vs → Body deep (meant ∷ rest) ts vs
 declared s meant stands same flat low more = with_first s meant (declaration_first stands) same flat low more
 
@@ -68,7 +71,8 @@ pub record AreTrees (K X : Type 0) (B : K → List X → List Token → Type 0) 
 pub no_trees : {K X : Type 0} {B : K → List X → List Token → Type 0} → AreTrees K X B [] []
 no_trees = record { at = λ n. record { to = n; tokens = []; cut = nothing_cut (fresh n); onto = λ k rest ts h. h } }
 
-pub then_trees : {K X : Type 0} {B : K → List X → List Token → Type 0} {ps qs : List Piece} {xs ys : List X} → AreTrees K X B ps xs → AreTrees K X B qs ys → AreTrees K X B (ps ++ qs) (xs ++ ys)
+pub then_trees : {K X : Type 0} {B : K → List X → List Token → Type 0} {ps qs : List Piece} {xs ys : List X} → AreTrees K X B ps xs → AreTrees K X B qs ys
+    → AreTrees K X B (ps ++ qs) (xs ++ ys)
 then_trees {K = K} {X = X} {B = B} {ps = ps} {qs = qs} {xs = xs} {ys = ys} x y = record { at = λ n. both n (x.at n) }
   where
     both : (n : ℕ) → TreesAt K X B ps xs n → TreesAt K X B (ps ++ qs) (xs ++ ys) n
@@ -82,14 +86,15 @@ then_trees {K = K} {X = X} {B = B} {ps = ps} {qs = qs} {xs = xs} {ys = ys} x y =
     }
 
 -- the pieces of a list, a tree for each of its elements
-pub each_tree : {K X A : Type 0} {B : K → List X → List Token → Type 0} (P : A → Type 0) (pieces : A → List Piece) (tree : A → X) → ((a : A) → P a → AreTrees K X B (pieces a) (tree a ∷ []))
+pub each_tree : {K X A : Type 0} {B : K → List X → List Token → Type 0} (P : A → Type 0) (pieces : A → List Piece) (tree : A → X)
+    → ((a : A) → P a → AreTrees K X B (pieces a) (tree a ∷ []))
     → (items : List A) → All P items → AreTrees K X B (flat_map pieces items) (map tree items)
 each_tree P pieces tree one [] h = no_trees
 each_tree P pieces tree one (a ∷ items) h = then_trees (one a h.0) (each_tree P pieces tree one items h.1)
 
 -- ---- pieces that are statements
 
--- by how deep they may be, and by what stands behind them
+-- by how deep they may be, and by what stands after them
 abbrev InBody : ℕ × List Token → List StmtTree → List Token → Type 0
 InBody k all ts = Body k.0 all ts k.1
 
@@ -100,7 +105,8 @@ abbrev pub Stand : List Piece → List StmtTree → Type 0
 Stand ps all = AreTrees (ℕ × List Token) StmtTree InBody ps all
 
 -- one statement, in which no other stands
-one_first : {ps : List Piece} {n to : ℕ} {tokens : List Token} (s meant : StmtTree) → Cut ps (fresh n) (fresh to) tokens → ((ts : List Token) → IsFirst s (tokens ++ ts) ts)
+one_first : {ps : List Piece} {n to : ℕ} {tokens : List Token} (s meant : StmtTree) → Cut ps (fresh n) (fresh to) tokens
+    → ((ts : List Token) → IsFirst s (tokens ++ ts) ts)
     → unlined_stmt s ≡ unlined_stmt meant → depth s ≡ 0 → tallest s ≤ 64 → StandAt ps (meant ∷ []) n
 one_first {to = to} {tokens = tokens} s meant cut first same flat low = record {
   to = to;
@@ -109,11 +115,13 @@ one_first {to = to} {tokens = tokens} s meant cut first same flat low = record {
   onto = λ k rest ts h. with_first s meant (first ts) same (omega (arith, flat)) low h;
 }
 
-pub one_stated : {ps : List Piece} {n to : ℕ} {tokens : List Token} (s meant : StmtTree) → Cut ps (fresh n) (fresh to) tokens → ((ts : List Token) → Statement s (tokens ++ ts) ts)
+pub one_stated : {ps : List Piece} {n to : ℕ} {tokens : List Token} (s meant : StmtTree) → Cut ps (fresh n) (fresh to) tokens
+    → ((ts : List Token) → Statement s (tokens ++ ts) ts)
     → unlined_stmt s ≡ unlined_stmt meant → depth s ≡ 0 → tallest s ≤ 64 → StandAt ps (meant ∷ []) n
 one_stated s meant cut stands same flat low = one_first s meant cut (λ ts. statement_first (stands ts)) same flat low
 
-pub one_declared : {ps : List Piece} {n to : ℕ} {tokens : List Token} (s meant : StmtTree) → Cut ps (fresh n) (fresh to) tokens → ((ts : List Token) → Declaration s (tokens ++ ts) ts)
+pub one_declared : {ps : List Piece} {n to : ℕ} {tokens : List Token} (s meant : StmtTree) → Cut ps (fresh n) (fresh to) tokens
+    → ((ts : List Token) → Declaration s (tokens ++ ts) ts)
     → unlined_stmt s ≡ unlined_stmt meant → depth s ≡ 0 → tallest s ≤ 64 → StandAt ps (meant ∷ []) n
 one_declared s meant cut stands same flat low = one_first s meant cut (λ ts. declaration_first (stands ts)) same flat low
 

@@ -1,2 +1,3 @@
 pub mod Stub
 pub mod Intended
+pub mod Laws

@@ -1,8 +1,8 @@
-//! The expressions of the intended tree. Where one is not made, memory is wanting.
+//! The expressions of the intended tree. Where one is not made, memory runs out.
 
 ghost use Rattle.std.specs.Prelude.{◌≡◌, [], ◌∷◌, IfOk, codes, fold, map};
-ghost use Rattle.xs_csyn.specs.Tree as t;
-ghost use Rattle.xs_csyn.specs.View.{plain};
+ghost use Rattle.xs_csyn.specs.SyntaxTree as t;
+ghost use Rattle.xs_csyn.specs.TreeViews.{expr_tree};
 ghost use Rattle.xs_csyn.specs.declared.tree.BinaryOp.TheVariants as op;
 ghost use Rattle.xs_stub.specs.Intended as spec;
 ghost use Rattle.xs_stub.specs.Stub.{joined_names};
@@ -13,7 +13,7 @@ use xs_base::{Bytes, Memory};
 use xs_csyn::{BinaryOp, CType, Expr};
 use xs_iface::{Param, Term};
 
-/// A type by its word, with so many `*` behind it.
+/// A type by its word, with so many `*` after it.
 pub fn type_of(alloc: Global, name: &[u8], stars: u32) -> Result<CType, Memory>
     ensures { IfOk result (λ c. c ≡ record { name = name.now; stars = stars }) }
 {
@@ -22,26 +22,27 @@ pub fn type_of(alloc: Global, name: &[u8], stars: u32) -> Result<CType, Memory>
 }
 
 /// A name that stands for a value.
-#[tactic(auto, using(xs_csyn::proofs::Views::views))]
+#[tactic(auto, using(xs_csyn::proofs::ViewsCompute::views))]
 pub fn variable(alloc: Global, line: u32, name: &[u8]) -> Result<Expr, Memory>
-    ensures { IfOk result (λ e. plain e ≡ t.Var line name.now) }
+    ensures { IfOk result (λ e. expr_tree e ≡ t.Var line name.now) }
 {
     let name = Bytes::from_slice(alloc, name)?;
     Ok(Expr::Name(line, name))
 }
 
 /// An integer literal.
-#[tactic(auto, using(xs_csyn::proofs::Views::views))]
+#[tactic(auto, using(xs_csyn::proofs::ViewsCompute::views))]
 pub fn number(line: u32, value: u64) -> Expr
-    ensures { plain result ≡ t.Num line value }
+    ensures { expr_tree result ≡ t.Num line value }
 {
     Expr::Int(line, value)
 }
 
 /// A call of a function by its name.
-#[tactic(auto, using(xs_csyn::proofs::Views::views))]
+#[tactic(auto, using(xs_csyn::proofs::ViewsCompute::views))]
 pub fn call_of(alloc: Global, line: u32, name: &[u8], args: Vec<Expr>) -> Result<Expr, Memory>
-    ensures { IfOk result (λ e. plain e ≡ spec.call_of line name.now (map plain args.items)) }
+    ensures { IfOk result (λ e. expr_tree e
+        ≡ spec.call_of line name.now (map expr_tree args.items)) }
 {
     let name = Bytes::from_slice(alloc, name)?;
     Ok(Expr::Call(line, name, args))
@@ -49,7 +50,7 @@ pub fn call_of(alloc: Global, line: u32, name: &[u8], args: Vec<Expr>) -> Result
 
 /// One argument.
 pub fn one(alloc: Global, a: Expr) -> Result<Vec<Expr>, Memory>
-    ensures { IfOk result (λ v. map plain v.items ≡ plain a ∷ []) }
+    ensures { IfOk result (λ v. map expr_tree v.items ≡ expr_tree a ∷ []) }
 {
     let mut all = Vec::new(alloc);
     all.push(a)?;
@@ -58,43 +59,45 @@ pub fn one(alloc: Global, a: Expr) -> Result<Vec<Expr>, Memory>
 
 /// Two arguments.
 pub fn two(alloc: Global, a: Expr, b: Expr) -> Result<Vec<Expr>, Memory>
-    ensures { IfOk result (λ v. map plain v.items ≡ plain a ∷ plain b ∷ []) }
+    ensures { IfOk result (λ v. map expr_tree v.items ≡ expr_tree a ∷ expr_tree b ∷ []) }
 {
     let mut all = one(alloc, a)?;
     all.push(b)?;
     Ok(all)
 }
 
-/// An expression taken as another type.
-#[tactic(auto, using(xs_csyn::proofs::Views::views))]
+/// An expression cast to another type.
+#[tactic(auto, using(xs_csyn::proofs::ViewsCompute::views))]
 pub fn cast_to(alloc: Global, line: u32, to: CType, a: Expr) -> Result<Expr, Memory>
-    ensures { IfOk result (λ e. plain e ≡ t.Cast line to (plain a)) }
+    ensures { IfOk result (λ e. expr_tree e ≡ t.Cast line to (expr_tree a)) }
 {
     Ok(Expr::Cast(line, to, Box::new(alloc, a)?))
 }
 
 /// Two operands with an operator between them.
-#[tactic(auto, using(xs_csyn::proofs::Views::views))]
+#[tactic(auto, using(xs_csyn::proofs::ViewsCompute::views))]
 pub fn joined(alloc: Global, line: u32, op: BinaryOp, a: Expr, b: Expr) -> Result<Expr, Memory>
-    ensures { IfOk result (λ e. plain e ≡ t.Two line op (plain a) (plain b)) }
+    ensures { IfOk result (λ e. expr_tree e ≡ t.Two line op (expr_tree a) (expr_tree b)) }
 {
     Ok(Expr::Binary(line, op, Box::new(alloc, a)?, Box::new(alloc, b)?))
 }
 
-/// The `int` that the argument at a place is read as.
-pub fn int_argument(alloc: Global, line: u32, place: u64) -> Result<Expr, Memory>
-    ensures { IfOk result (λ e. plain e ≡ spec.int_argument line place) }
+/// The `int` that the argument of this index is read as.
+pub fn int_argument(alloc: Global, line: u32, index: u64) -> Result<Expr, Memory>
+    ensures { IfOk result (λ e. expr_tree e ≡ spec.int_argument line index) }
 {
-    let item = call_of(alloc, line, b"ST", one(alloc, number(line, place))?)?;
+    let item = call_of(alloc, line, b"ST", one(alloc, number(line, index))?)?;
     let value = call_of(alloc, line, b"SvIV", one(alloc, item)?)?;
     let int_type = type_of(alloc, b"int", 0)?;
     cast_to(alloc, line, int_type, value)
 }
 
 /// The croak over the number of arguments, with the names of the parameters.
-#[tactic(auto, using(xs_csyn::proofs::Views::views))]
+#[tactic(auto, using(xs_csyn::proofs::ViewsCompute::views))]
 pub fn usage_croak(alloc: Global, line: u32, params: &[Param]) -> Result<Expr, Memory>
-    ensures { IfOk result (λ e. plain e ≡ spec.call_of line (codes "croak_xs_usage") (t.Var line (codes "cv") ∷ t.Str line (joined_names params.now) ∷ [])) }
+    ensures { IfOk result (λ e. expr_tree e
+        ≡ spec.call_of line (codes "croak_xs_usage")
+        (t.Var line (codes "cv") ∷ t.Str line (joined_names params.now) ∷ [])) }
 {
     let function = variable(alloc, line, b"cv")?;
     let names = Expr::Text(line, write_names(alloc, params)?);
@@ -102,7 +105,7 @@ pub fn usage_croak(alloc: Global, line: u32, params: &[Param]) -> Result<Expr, M
 }
 
 fn term_tree(alloc: Global, params: &[Param], line: u32, term: Term) -> Result<Expr, Memory>
-    ensures { IfOk result (λ e. plain e ≡ spec.term_tree params.now line term) }
+    ensures { IfOk result (λ e. expr_tree e ≡ spec.term_tree params.now line term) }
 {
     match term {
         Term::Parameter(at) => variable(alloc, line, name_at(params, at)),
@@ -118,7 +121,9 @@ pub fn sum_tree(
     first: Term,
     others: &[Term],
 ) -> Result<Expr, Memory>
-    ensures { IfOk result (λ e. plain e ≡ fold (λ sum term. t.Two line op.Add sum (spec.term_tree params.now line term)) (spec.term_tree params.now line first) others.now) }
+    ensures { IfOk result (λ e. expr_tree e
+        ≡ fold (λ sum term. t.Two line op.Add sum (spec.term_tree params.now line term))
+        (spec.term_tree params.now line first) others.now) }
 {
     let mut sum = term_tree(alloc, params, line, first)?;
     for term in others {

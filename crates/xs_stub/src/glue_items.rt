@@ -2,8 +2,8 @@
 
 ghost use Rattle.std.specs.Prelude.{◌≡◌, [], ◌∷◌, ◌++◌, IfOk, Ok, map};
 ghost use Rattle.xs_base.specs.Reading.{GivesBy};
-ghost use Rattle.xs_csyn.specs.Tree as t;
-ghost use Rattle.xs_csyn.specs.View.{file_tree, item_tree, item_trees, plain_stmt, plain_stmts};
+ghost use Rattle.xs_csyn.specs.SyntaxTree as t;
+ghost use Rattle.xs_csyn.specs.TreeViews.{file_tree, item_tree, item_trees, stmt_tree, stmt_trees};
 ghost use Rattle.xs_csyn.specs.declared.tree.PerlForm.TheVariants as form;
 ghost use Rattle.xs_stub.specs.Intended as spec;
 ghost use Rattle.xs_stub.specs.Intended.{glue_tree};
@@ -47,7 +47,7 @@ fn xsub_trees(alloc: Global, xsubs: &[Xsub]) -> Result<Items<FileItem>, Memory>
 
 // A glue function is registered under its full name.
 fn registration(alloc: Global, line: u32, x: &Xsub) -> Result<Stmt, Memory>
-    ensures { IfOk result (λ s. plain_stmt s ≡ spec.registration line x.now) }
+    ensures { IfOk result (λ s. stmt_tree s ≡ spec.registration line x.now) }
 {
     let full = x.full.copy(alloc)?;
     let function = x.glue.copy(alloc)?;
@@ -61,7 +61,8 @@ fn with_registrations(
     line: u32,
     xsubs: &[Xsub],
 ) -> Result<Vec<Stmt>, Memory>
-    ensures { IfOk result (λ v. plain_stmts v ≡ plain_stmts all ++ map (spec.registration line) xsubs.now) }
+    ensures { IfOk result (λ v. stmt_trees v
+        ≡ stmt_trees all ++ map (spec.registration line) xsubs.now) }
 {
     for xsub in xsubs {
         let one = registration(alloc, line, xsub)?;
@@ -72,7 +73,9 @@ fn with_registrations(
 
 // What stands in the boot function.
 fn boot_body(alloc: Global, line: u32, xsubs: &[Xsub]) -> Result<Vec<Stmt>, Memory>
-    ensures { IfOk result (λ v. plain_stmts v ≡ t.Perl line form.DxsArgs ∷ map (spec.registration line) xsubs.now ++ t.Perl line form.XsReturnYes ∷ []) }
+    ensures { IfOk result (λ v. stmt_trees v
+        ≡ t.Perl line form.DxsArgs ∷ map (spec.registration line) xsubs.now
+        ++ t.Perl line form.XsReturnYes ∷ []) }
 {
     let all = with_registrations(alloc, begun(alloc, line)?, line, xsubs)?;
     with_more(all, word(line, PerlForm::XsReturnYes))
@@ -89,12 +92,12 @@ fn boot_tree(alloc: Global, m: &Module) -> Result<FileItem, Memory>
     Ok(FileItem::XsFun(XsFun { line, name, body }))
 }
 
-/// The tree that the glue text of a module is meant to be, with the lines of the XS file. Each node of a statement has the line
-/// of that statement: what belongs to the boot function has the line of MODULE, an input that of its parameter, the author's
-/// code its own, what makes the returned value of RETVAL the line that names RETVAL in OUTPUT, and all else the line of the
-/// interface.
+/// The tree that the glue text of a module is meant to be, with the lines of the XS file. Each node
+/// of a statement has the line of that statement: what belongs to the boot function has the line of
+/// MODULE, an input that of its parameter, the author's code its own, what makes the returned value
+/// of RETVAL the line that names RETVAL in OUTPUT, and all else the line of the interface.
 ///
-/// No fault of the grammar can come: where there is no tree, memory is wanting.
+/// No fault of the grammar can come: where there is no tree, memory runs out.
 #[tactic(auto, unfolding(crate::specs::Intended::glue_tree))]
 pub fn glue_tree(alloc: Global, m: &Module) -> Result<CFile, Refuse>
     ensures { GivesBy file_tree result (Ok (glue_tree m.now)) }

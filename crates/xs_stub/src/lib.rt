@@ -11,4 +11,4 @@ mod writer;
 
 pub use glue_items::glue_tree;
 pub use laws::written_text_reads_back;
-pub use writer::{decimal_text, together, write_glue};
+pub use writer::write_glue;

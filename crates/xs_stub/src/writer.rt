@@ -1,14 +1,14 @@
 //! The glue text of a module: the C by which Perl calls its XSUBs.
-ghost use Rattle.std.specs.Fmt.{decimal};
-ghost use Rattle.std.specs.List.{concat, flat_map};
-ghost use Rattle.std.specs.Prelude.{◌≡◌, ◌++◌, IfOk, codes, map, slice_get};
+ghost use Rattle.std.specs.List.{flat_map};
+ghost use Rattle.std.specs.Prelude.{◌≡◌, ◌++◌, IfOk, codes, slice_get};
 ghost use Rattle.xs_stub.specs.Stub.{boot_text, c_line_text, declaration_text, end_text, glue_text, head_text, input_text, inputs_text, joined_names, name_of, name_or_nothing, registration_text, sum_text, term_text, work_text, xsub_text};
 
 use std::alloc::Global;
-use xs_base::{Bytes, Line, Memory};
+use xs_base::{Bytes, Line, Memory, decimal_text, together};
 use xs_iface::{Module, Param, Term, Xsub, underscored};
 
-/// The glue text. Its layout is this project's own; what it calls is described in perlxs and perlapi.
+/// The glue text. Its layout is this project's own; what it calls is described in perlxs and
+/// perlapi.
 #[tactic(auto, unfolding(crate::specs::Stub::glue_text))]
 pub fn write_glue(alloc: Global, m: &Module) -> Result<Bytes, Memory>
     ensures { IfOk result (λ text. text ≡ glue_text m.now) }
@@ -33,27 +33,6 @@ fn write_c_part(alloc: Global, lines: &[Line]) -> Result<Bytes, Memory>
         text.append(line.text.as_slice())?;
         text.append(b"\n")?;
     }
-    Ok(text)
-}
-
-/// Texts one behind the other.
-#[tactic(auto, using(std::proofs::Common::append_assoc))]
-pub fn together(alloc: Global, pieces: &[&[u8]]) -> Result<Bytes, Memory>
-    ensures { IfOk result (λ text. text ≡ concat (map (λ piece. piece.now) pieces.now)) }
-{
-    let mut text = Bytes::new(alloc);
-    for piece in pieces {
-        text.append(piece)?;
-    }
-    Ok(text)
-}
-
-/// A number in decimal.
-pub fn decimal_text(alloc: Global, n: u64) -> Result<Bytes, Memory>
-    ensures { IfOk result (λ text. text ≡ decimal n) }
-{
-    let mut text = Bytes::new(alloc);
-    text.append_number(alloc, n)?;
     Ok(text)
 }
 
@@ -146,7 +125,8 @@ pub fn write_names(alloc: Global, params: &[Param]) -> Result<Bytes, Memory>
 
 #[tactic(auto, using(std::proofs::Common::append_assoc))]
 fn write_more_names(alloc: Global, params: &[Param]) -> Result<Bytes, Memory>
-    ensures { IfOk result (λ text. text ≡ flat_map (λ param. codes ", " ++ name_of param) params.now) }
+    ensures { IfOk result (λ text. text
+        ≡ flat_map (λ param. codes ", " ++ name_of param) params.now) }
 {
     let mut text = Bytes::new(alloc);
     for param in params {
@@ -181,19 +161,19 @@ fn write_inputs(alloc: Global, params: &[Param]) -> Result<Bytes, Memory>
     ensures { IfOk result (λ text. text ≡ inputs_text 0 params.now) }
 {
     let mut text = Bytes::new(alloc);
-    let mut place: u64 = 0;
+    let mut index: u64 = 0;
     for param in params {
-        text.append(write_input(alloc, place, param)?.as_slice())?;
-        place += 1;
+        text.append(write_input(alloc, index, param)?.as_slice())?;
+        index += 1;
     }
     Ok(text)
 }
 
 #[tactic(auto, unfolding(crate::specs::Stub::input_text))]
-fn write_input(alloc: Global, place: u64, param: &Param) -> Result<Bytes, Memory>
-    ensures { IfOk result (λ text. text ≡ input_text place param.now) }
+fn write_input(alloc: Global, index: u64, param: &Param) -> Result<Bytes, Memory>
+    ensures { IfOk result (λ text. text ≡ input_text index param.now) }
 {
-    let at = decimal_text(alloc, place)?;
+    let at = decimal_text(alloc, index)?;
     let begin = b"        ".as_slice();
     let read = b" = (int)SvIV(ST(".as_slice();
     let end = b"));\n".as_slice();
@@ -218,7 +198,8 @@ fn write_sum(alloc: Global, params: &[Param], terms: &[Term]) -> Result<Bytes, M
 
 #[tactic(auto, using(std::proofs::Common::append_assoc))]
 fn write_more_terms(alloc: Global, params: &[Param], terms: &[Term]) -> Result<Bytes, Memory>
-    ensures { IfOk result (λ text. text ≡ flat_map (λ term. codes " + " ++ term_text params.now term) terms.now) }
+    ensures { IfOk result (λ text. text
+        ≡ flat_map (λ term. codes " + " ++ term_text params.now term) terms.now) }
 {
     let mut text = Bytes::new(alloc);
     for term in terms {
@@ -228,7 +209,7 @@ fn write_more_terms(alloc: Global, params: &[Param], terms: &[Term]) -> Result<B
     Ok(text)
 }
 
-/// The name of the parameter at a place, which a term of a module has always.
+/// The name of the parameter of this index, which a term of a module has always.
 pub fn name_at(params: &[Param], at: u32) -> &[u8]
     ensures { result.now ≡ name_or_nothing (slice_get params.now at) }
 {

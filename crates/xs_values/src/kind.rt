@@ -1,8 +1,10 @@
 //! The kinds of C's integers.
-ghost use Rattle.std.specs.Prelude.{◌≡◌, pos, ◌^◌};
+ghost use Rattle.std.specs.Prelude.{◌≡◌, ◌^◌, pos};
 ghost use Rattle.xs_values.specs.Kinds.{bits_of, common_kind, high_of, is_signed, low_of, promoted};
+ghost use Rattle.xs_values.specs.Numbers.{is_held};
 
-/// A kind: how many bits an integer type has, and whether it has negative numbers. `Bool` is C's `bool`.
+/// A kind: how many bits an integer type has, and whether it has negative numbers (C11 6.2.5).
+/// `Bool` is C's `bool`.
 #[derive(Clone, Copy, Debug, PartialEq, Eq)]
 pub enum Kind {
     I8,
@@ -46,6 +48,13 @@ pub(crate) fn high(kind: Kind) -> i128
     }
 }
 
+// Whether a kind holds a whole number.
+pub(crate) fn holds(kind: Kind, z: i128) -> bool
+    ensures { result ≡ is_held kind z }
+{
+    low(kind) <= z && z <= high(kind)
+}
+
 // How many bits a number has.
 pub(crate) fn bits(kind: Kind) -> u32
     ensures { result ≡ bits_of kind }
@@ -82,8 +91,8 @@ pub(crate) fn signed(kind: Kind) -> bool
     }
 }
 
-// C's integer promotion.
-fn promote(kind: Kind) -> Kind
+/// Integer promotion (C11 6.3.1.1): a kind of less than 32 bits becomes I32.
+pub fn promote(kind: Kind) -> Kind
     ensures { result ≡ promoted kind }
 {
     match kind {
@@ -94,7 +103,8 @@ fn promote(kind: Kind) -> Kind
     }
 }
 
-/// The kind that both operands of an operator are converted to.
+/// The kind that both operands of an operator are converted to (C11 6.3.1.8): after promotion the
+/// wider one, and at one width the unsigned one.
 pub fn common(a: Kind, b: Kind) -> Kind
     ensures { result ≡ common_kind a b }
 {

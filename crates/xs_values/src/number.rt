@@ -1,7 +1,7 @@
 //! Numbers of C, and the conversion between their kinds.
 ghost use Rattle.std.specs.Prelude.{◌≡◌, ◌-◌, ◌≤ℤ◌, ◌^◌, neg_ℤ, pos};
 ghost use Rattle.xs_values.specs.Kinds.{high_of, low_of};
-ghost use Rattle.xs_values.specs.Numbers.{modular, wrapped};
+ghost use Rattle.xs_values.specs.Numbers.{IsInRange, bits_in, modular, wrapped};
 
 use crate::Kind;
 use crate::kind::{high, modulus};
@@ -37,6 +37,7 @@ impl CInt {
         }
     }
 
+    /// The kind.
     pub fn kind(&self) -> Kind
         ensures { result ≡ self.now.kind }
     {
@@ -46,6 +47,7 @@ impl CInt {
     /// The whole number, which is in the range of the kind.
     pub fn value(&self) -> i128
         ensures value { result ≡ self.now.value }
+        ensures held { IsInRange self.now.kind result }
         ensures low { neg_ℤ (pos (2 ^ 63)) ≤ℤ result }
         ensures high { result ≤ℤ pos (2 ^ 64 - 1) }
     {
@@ -62,7 +64,8 @@ pub(crate) fn held(kind: Kind, value: i128) -> CInt
     CInt { kind, value }
 }
 
-/// C's conversion to a kind: the number of the kind that differs by a multiple of 2^bits. To `Bool` any value but 0 gives 1.
+/// Conversion to a kind (C11 6.3.1.3): the number of the kind that differs by a multiple of 2^bits.
+/// To `Bool` any value but 0 gives 1 (C11 6.3.1.2).
 pub fn wrap(kind: Kind, v: i128) -> CInt
     ensures { result ≡ wrapped kind v }
 {
@@ -85,4 +88,11 @@ fn wrap_value(kind: Kind, v: i128) -> i128
     } else {
         residue - numbers
     }
+}
+
+// The bits of a number in two's complement, as a number that is not negative.
+pub(crate) fn bit_pattern(kind: Kind, z: i128) -> u64
+    ensures { result ≡ bits_in kind z }
+{
+    z.rem_euclid(modulus(kind)) as u64
 }

@@ -1,31 +1,139 @@
-use super::*;
+use crate::{table, *};
+use std::alloc::Global;
 use std::test::Fail;
 use xs_base::Bytes;
 
 #[test]
-fn numbers_of_texts(rt: HostRuntime) -> Result<(), Fail> {
-    let texts: [(&[u8], i64); 6] = [
-        (b"", 0),
-        (b" \t-12x", -12),
-        (b"+7", 7),
-        (b"--7", 0),
-        (b"9223372036854775808", i64::MAX),
-        (b"-99999999999999999999", i64::MIN),
+fn operators_at_edges(rt: HostRuntime) {
+    let groups: [&[(Op, Kind, i128, Kind, i128, Kind, i128)]; 6] = [
+        &table::SUMS,
+        &table::PRODUCTS,
+        &table::DIVISIONS,
+        &table::SHIFTS,
+        &table::BITS,
+        &table::COMPARISONS,
     ];
-    for (text, number) in texts {
-        let text = Plain::Text(Bytes::from_slice(rt.alloc(), text).map_err(|_| "memory")?);
-        assert_eq!(rt; to_iv(&text), number);
+    for rows in groups {
+        for row in rows {
+            let (op, left, x, right, y, kind, value) = *row;
+            let given = arith(op, wrap(left, x), wrap(right, y));
+            assert_eq!(rt;
+                given.map(|n| (n.kind(), n.value())),
+                Ok((kind, value)),
+                "{x} {op:?} {y}"
+            );
+            assert_eq!(rt; result_kind(op, left, right), kind);
+        }
     }
-    let text = to_text(rt.alloc(), &Plain::Int(-40)).map_err(|_| "memory")?;
-    assert_eq!(rt; text.as_slice(), b"-40".as_slice());
+}
+
+#[test]
+fn traps_at_edges(rt: HostRuntime) {
+    for row in &table::TRAPS {
+        let (op, left, x, right, y, trap) = *row;
+        let given = arith(op, wrap(left, x), wrap(right, y));
+        assert_eq!(rt; given.map(|n| n.value()), Err(trap), "{x} {op:?} {y}");
+    }
+}
+
+#[test]
+fn unary_operators_at_edges(rt: HostRuntime) {
+    for row in &table::UNARY {
+        let (op, operand, z, kind, value) = *row;
+        let given = unary(op, wrap(operand, z));
+        assert_eq!(rt;
+            given.map(|n| (n.kind(), n.value())),
+            Ok((kind, value)),
+            "{op:?} {z}"
+        );
+        assert_eq!(rt; unary_kind(op, operand), kind);
+    }
+    for row in &table::UNARY_TRAPS {
+        let (op, operand, z, trap) = *row;
+        assert_eq!(rt;
+            unary(op, wrap(operand, z)).map(|n| n.value()),
+            Err(trap),
+            "{op:?} {z}"
+        );
+    }
+}
+
+#[test]
+fn conversions_at_edges(rt: HostRuntime) {
+    for row in &table::CONVERSIONS {
+        let (kind, z, value) = *row;
+        assert_eq!(rt; wrap(kind, z).value(), value, "{kind:?} {z}");
+    }
+    assert_eq!(rt; wrap(Kind::Bool, i128::MIN).value(), 1);
+    assert_eq!(rt; wrap(Kind::I64, i128::MAX).value(), -1);
+}
+
+#[test]
+fn kinds_of_literals(rt: HostRuntime) {
+    for row in &table::LITERALS {
+        let (base, unsigned, length, value, kind) = *row;
+        let suffix = Suffix { unsigned, length };
+        assert_eq!(rt;
+            literal_kind(base, suffix, value, DataModel::Lp64),
+            kind,
+            "{base:?} {value}"
+        );
+    }
+}
+
+#[test]
+fn kinds_of_types(rt: HostRuntime) -> Result<(), Fail> {
+    let types: [(&str, Option<Kind>); 8] = [
+        ("char", Some(Kind::I8)),
+        ("unsigned", Some(Kind::U32)),
+        ("unsigned long long", Some(Kind::U64)),
+        ("SysRet", Some(Kind::I64)),
+        ("bool", Some(Kind::Bool)),
+        ("long int", None),
+        ("unsigned  int", None),
+        ("", None),
+    ];
+    for (words, kind) in types {
+        let words = Bytes::from_slice(rt.alloc(), words.as_bytes()).map_err(|_| "memory")?;
+        assert_eq!(rt; kind_of(&words, DataModel::Lp64), kind);
+    }
     Ok(())
 }
 
 #[test]
-fn sums(rt: HostRuntime) {
-    let sum = |kind, x, y| arith(Op::Add, wrap(kind, x), wrap(kind, y)).map(|sum| sum.value());
-    assert_eq!(rt; sum(Kind::I32, 2147483647, 1), Err(Trap::Overflow));
-    assert_eq!(rt; sum(Kind::U32, 4294967295, 2), Ok(1));
-    assert_eq!(rt; sum(Kind::I8, 127, 200), Ok(71));
-    assert_eq!(rt; wrap(Kind::Bool, i128::MIN).value(), 1);
+fn numbers_of_texts(rt: HostRuntime) -> Result<(), Fail> {
+    for row in &table::TEXTS {
+        let (text, iv, uv, is_true) = *row;
+        let value = Plain::Text(Bytes::from_slice(rt.alloc(), text.as_bytes()).map_err(
+            |_| "memory",
+        )?);
+        assert_eq!(rt; to_iv(&value), iv, "{text}");
+        assert_eq!(rt; to_uv(&value), uv, "{text}");
+        assert_eq!(rt; truth(&value), is_true, "{text}");
+    }
+    Ok(())
+}
+
+fn reads(alloc: Global, v: &Plain, iv: i64, uv: u64, text: &str) -> Result<bool, Fail> {
+    let given = to_text(alloc, v).map_err(|_| "memory")?;
+    let is_number = to_iv(v) == iv && to_uv(v) == uv && truth(v) == (uv != 0);
+    Ok(is_number && given.as_slice() == text.as_bytes())
+}
+
+#[test]
+fn texts_of_numbers(rt: HostRuntime) -> Result<(), Fail> {
+    for (uv, iv, text) in &table::UVS {
+        assert!(rt;
+            reads(rt.alloc(), &Plain::from_uv(*uv), *iv, *uv, text)?,
+            "{text}"
+        );
+    }
+    for (iv, uv, text) in &table::IVS {
+        assert!(rt;
+            reads(rt.alloc(), &Plain::Int(*iv), *iv, *uv, text)?,
+            "{text}"
+        );
+    }
+    assert!(rt; reads(rt.alloc(), &Plain::Undef, 0, 0, "")?);
+    Ok(())
 }

@@ -1,45 +1,35 @@
 -- What a run answers: its status, and what is written to each sink.
 use Rattle.std.specs.Fmt.{decimal}
-use Rattle.std.specs.Prelude.{◌≡◌, ◌≢◌, ◌⊎◌, ℕ, ◌==◌, List, [], ◌∷◌, ◌++◌, codes, Option, None, Some, Result, Ok, Err, if◌then◌else◌}
+use Rattle.std.specs.Prelude.{◌≡◌, ◌≢◌, ◌⊎◌, ℕ, List, [], ◌∷◌, ◌++◌, codes, Option, None, Some, Result, Ok, Err}
 use Rattle.std.specs.Result.{result_unwrap_or}
 use Rattle.xs_base.specs.declared.desk.DeskFault.{DeskFault}
 use Rattle.xs_base.specs.declared.desk.DeskFault.TheVariants as read
-use Rattle.xs_base.specs.Reading.{fault_in}
+use Rattle.xs_base.specs.Reading.{fault_in, ◌>>=◌}
 use Rattle.xs_base.specs.declared.fault.Fault.{Fault}
-use Rattle.xs_base.specs.declared.place.FileOf.{FileOf}
-use Rattle.xs_base.specs.declared.place.FileOf.TheVariants.{Xs, Typemap, Script, Text}
-use Rattle.xs_base.specs.Desks.{Files, told_read}
-use Rattle.xs_base.specs.Reading.{◌>>=◌}
+use Rattle.xs_base.specs.declared.fault_codes.TheConstants.{FILE_TOO_LONG}
+use Rattle.xs_base.specs.FaultTexts.{text_of}
+use Rattle.xs_base.specs.declared.source.FileOf.{FileOf}
+use Rattle.xs_base.specs.declared.source.FileOf.TheVariants.{Xs, Typemap, Script, Text}
+use Rattle.xs_base.specs.Desks.{Files, reported_read}
 use Rattle.xs_base.specs.Sinks.{appended}
-use Rattle.xs_call.specs.Job.{call_of, check_of, compile_of}
+use Rattle.xs_call.specs.Jobs.{call_of, check_of, compile_of}
 use Rattle.xsubpp.specs.declared.answer.Answer.{Answer}
 use Rattle.xsubpp.specs.declared.status.Status.{Status}
 use Rattle.xsubpp.specs.declared.status.Status.TheVariants.{Done, Refused, Usage, Missing, ReadFault, WriteFault, Memory}
-use Rattle.xsubpp.specs.declared.top.TheConstants.{FILE_LIMIT, USAGE}
-use Rattle.xsubpp.specs.Words.{Command, Compile, Call, Check, command_of}
+use Rattle.xsubpp.specs.CommandLine.{Command, Compile, Call, Check, command_of}
 
--- the text of a refusal by its number
-unfoldable pub refusal_text : ℕ → List ℕ
-refusal_text code =
-    if code == 101 then codes "file too long"
-    else if code == 102 then codes "no MODULE line"
-    else if code == 103 then codes "bad MODULE line"
-    else if code == 104 then codes "preprocessor line not taken"
-    else if code == 105 then codes "open POD"
-    else if code == 106 then codes "open TYPEMAP block"
-    else if code == 107 then codes "too many paragraphs"
-    else if code == 108 then codes "keyword left out"
-    else if code == 109 then codes "bad keyword value"
-    else if code == 303 then codes "parameter twice"
-    else if code == 304 then codes "too many parameters"
-    else if code == 407 then codes "name twice"
-    else if code == 951 then codes "bad script line"
-    else if code == 952 then codes "unknown variable"
-    else if code == 953 then codes "variable or sub twice"
-    else if code == 954 then codes "number out of range"
-    else if code == 955 then codes "value too deep"
-    else if code == 956 then codes "too many"
-    else codes "form not built yet"
+-- the most bytes that a file may have
+abbrev pub file_limit : ℕ
+file_limit = 1048576
+
+-- what is written where the words are no command: a line for each command
+abbrev pub usage_text : List ℕ
+usage_text =
+    codes "usage: xsubpp compile FILE [TYPEMAP]\n"
+    ++ codes "       xsubpp call FILE SCRIPT [TYPEMAP]\n"
+    ++ codes "       xsubpp run TEXT SCRIPT\n"
+    ++ codes "       xsubpp check FILE [TYPEMAP]\n"
+    ++ codes "       xsubpp example N\n"
 
 abbrev pub newline : List ℕ
 newline = 10 ∷ []
@@ -48,20 +38,26 @@ abbrev pub word_text : List ℕ → List ℕ
 word_text [] = []
 word_text (b ∷ bs) = codes ": " ++ (b ∷ bs)
 
+-- The text of a code stands after a blank. Where there is none, the code stands alone.
+abbrev pub after_code : Option (List ℕ) → List ℕ
+after_code None = []
+after_code (Some text) = codes " " ++ text
+
 -- The line of a fault, with the word that named the file.
 unfoldable pub fault_line : List ℕ → Fault → List ℕ
-fault_line name fault = name ++ codes ":" ++ decimal fault.line ++ codes ": " ++ decimal fault.code ++ codes " " ++ refusal_text fault.code ++ word_text fault.word ++ newline
+fault_line name fault = name ++ codes ":" ++ decimal fault.line ++ codes ": " ++ decimal fault.code
+    ++ after_code (text_of fault.code) ++ word_text fault.word ++ newline
 
 abbrev pub file_line : List ℕ → List ℕ → List ℕ
 file_line name what = name ++ what ++ newline
 
--- what is written of a file that is taken
+-- what is written of a file that is accepted
 abbrev pub accepted : List ℕ
 accepted = codes "accepted\n"
 
 -- that, or the first fault of the file
 abbrev pub accepted_of : List ℕ → Result (List ℕ) Fault
-accepted_of xs = check_of xs >>= λ taken. Ok accepted
+accepted_of xs = check_of xs >>= λ found. Ok accepted
 
 -- ---- commands
 
@@ -93,9 +89,11 @@ refused name fault = record { status = Refused; out = []; err = fault_line name 
 
 -- a file that was not read
 abbrev pub unread : List ℕ → FileOf → DeskFault → Answer
-unread name file read.Missing = record { status = Missing; out = []; err = file_line name (codes ": missing") }
-unread name file read.Longer = refused name (fault_in file 0 101 [])
-unread name file read.Failed = record { status = ReadFault; out = []; err = file_line name (codes ": read fault") }
+unread name file read.Missing =
+    record { status = Missing; out = []; err = file_line name (codes ": missing") }
+unread name file read.Longer = refused name (fault_in file 0 FILE_TOO_LONG [])
+unread name file read.Failed =
+    record { status = ReadFault; out = []; err = file_line name (codes ": read fault") }
 unread name file read.Memory = record { status = Memory; out = []; err = [] }
 
 abbrev pub done_or_refused : Command → Result (List ℕ) Fault → Answer
@@ -110,33 +108,37 @@ Given = FileOf → Result (List ℕ) DeskFault
 abbrev pub read_bytes : Given → FileOf → List ℕ
 read_bytes given file = result_unwrap_or (given file) []
 
-abbrev pub behind_read : List ℕ → FileOf → Result (List ℕ) DeskFault → Answer → Answer
-behind_read name file (Ok bytes) next = next
-behind_read name file (Err fault) next = unread name file fault
+abbrev pub after_read : List ℕ → FileOf → Result (List ℕ) DeskFault → Answer → Answer
+after_read name file (Ok bytes) next = next
+after_read name file (Err fault) next = unread name file fault
 
 -- the first file that was not read decides, and then what follows
-abbrev pub behind_reads : Command → Given → List FileOf → Answer → Answer
-behind_reads command given [] next = next
-behind_reads command given (file ∷ files) next = behind_read (name_of command file) file (given file) (behind_reads command given files next)
+abbrev pub after_reads : Command → Given → List FileOf → Answer → Answer
+after_reads command given [] next = next
+after_reads command given (file ∷ files) next =
+    after_read (name_of command file) file (given file) (after_reads command given files next)
 
 -- The answer to a command, by what the reads of its files gave.
 abbrev pub answer_by : Command → Given → Answer
-answer_by command given = behind_reads command given (files_of command) (done_or_refused command (job_of command (read_bytes given)))
+answer_by command given =
+    after_reads command given (files_of command)
+    (done_or_refused command (job_of command (read_bytes given)))
 
--- what the reads give where no fault comes and memory is found
-abbrev pub told_by : Command → Files → Given
-told_by command files file = told_read (files (name_of command file)) FILE_LIMIT
+-- what the reads give where no fault comes and memory does not run out
+abbrev pub reported_by : Command → Files → Given
+reported_by command files file = reported_read (files (name_of command file)) file_limit
 
 -- the answer to words that are no command
 abbrev pub usage : Answer
-usage = record { status = Usage; out = []; err = USAGE.now }
+usage = record { status = Usage; out = []; err = usage_text }
 
 -- the answer to a command, by the files
 abbrev pub answer_to : Option Command → Files → Answer
 answer_to None files = usage
-answer_to (Some command) files = answer_by command (told_by command files)
+answer_to (Some command) files = answer_by command (reported_by command files)
 
--- The answer as a function of the words and the files. Faults of the edges and want of memory are not told here.
+-- The answer as a function of the words and the files. Faults of the edges and running out of
+-- memory are not reported here.
 unfoldable pub answer : List (List ℕ) → Files → Answer
 answer words files = answer_to (command_of words) files
 
@@ -156,9 +158,10 @@ pub record Ends (a : Answer) (status : Status) (out out' err err' : Option (List
   pub out_is : out' ≡ appended out a.out
   pub err_is : err' ≡ appended err a.err
 
--- A run ended with the answer by what some reads gave, whatever the desk tells.
-pub record EndsByReads (words : List (List ℕ)) (status : Status) (out out' err err' : Option (List ℕ)) : Type 0 where
+-- A run ended with the answer by what some reads gave, whatever the desk holds.
+pub record EndsByReads (words : List (List ℕ)) (status : Status)
+    (out out' err err' : Option (List ℕ)) : Type 0 where
   pub command : Command
   pub given : Given
-  pub is_said : command_of words ≡ Some command
+  pub is_command : command_of words ≡ Some command
   pub ends : Ends (answer_by command given) status out out' err err'

@@ -2,12 +2,13 @@
 ghost use Rattle.std.specs.Prelude.{◌≡◌, [], IfOk, IsErr};
 ghost use Rattle.xsubpp.specs.Answers.{name_of, unread};
 ghost use Rattle.xsubpp.specs.Reads.{Finishes};
-ghost use Rattle.xsubpp.specs.Words.{said};
+ghost use Rattle.xsubpp.specs.CommandLine.{command_view};
 
-use crate::refusal::{fault_line, file_line};
+use crate::command_line::CommandWords;
+use crate::fault_lines::{fault_line, file_line};
 use crate::status::Status;
-use crate::words::CommandWords;
 use std::alloc::Global;
+use xs_base::fault_codes::FILE_TOO_LONG;
 use xs_base::{Bytes, DeskFault, Fault, FileOf, Memory, Refuse};
 
 /// A status, and what is written to each sink.
@@ -35,14 +36,14 @@ pub fn unread(alloc: Global, name: &Bytes, file: FileOf, fault: DeskFault) -> Re
             file_line(alloc, name, b": read fault")?,
         ),
         DeskFault::Longer => {
-            let fault = Fault::bare(alloc, file, 0, 101);
+            let fault = Fault::bare(alloc, file, 0, FILE_TOO_LONG);
             on_err(alloc, Status::Refused, fault_line(alloc, name, &fault)?)
         }
         DeskFault::Memory => Err(Memory),
     }
 }
 
-// An answer that tells something on `err` alone.
+// An answer that writes on `err` alone.
 fn on_err(alloc: Global, status: Status, err: Bytes) -> Result<Answer, Memory>
     ensures { IfOk result (λ a. a ≡ record { status = status; out = []; err = err }) }
 {
@@ -59,7 +60,7 @@ pub fn done_or_refused(
     command: CommandWords<'_>,
     job: Result<Bytes, Refuse>,
 ) -> Result<Answer, Memory>
-    ensures { IfOk result (λ a. Finishes (said command.entry) job a) }
+    ensures { IfOk result (λ a. Finishes (command_view command.entry) job a) }
 {
     match job {
         Ok(text) => Ok(Answer {
@@ -77,7 +78,7 @@ pub fn done_or_refused(
 
 /// The word that named a file.
 pub fn name_of<'a>(command: CommandWords<'a>, file: FileOf) -> &'a Bytes
-    ensures { result.now ≡ name_of (said command.entry) file }
+    ensures { result.now ≡ name_of (command_view command.entry) file }
 {
     match command {
         CommandWords::Compile(xs) => xs,

@@ -1,4 +1,5 @@
-//! Whole worked examples: an XS file and a script, with the glue text and the transcript that come of them.
+//! Whole worked examples: an XS file and a script, with the glue text and the transcript that come
+//! of them.
 
 /// An XS file and a script, and what is written for them.
 pub struct Example {
@@ -7,7 +8,7 @@ pub struct Example {
     /// What `compile` writes.
     pub glue: &'static str,
     /// What `call` writes.
-    pub told: &'static str,
+    pub transcript: &'static str,
 }
 
 /// An XSUB that adds two numbers.
@@ -52,7 +53,7 @@ pub const EXAMPLES: [Example; 14] = [
         xs: ADD,
         script: "call M::add(2, 3)\n",
         glue: ADD_GLUE,
-        told: "boot returned
+        transcript: "boot returned
   live 0 marks 0 scopes 0
 call 1 M::add returned 1
   item 0 = 5
@@ -66,7 +67,7 @@ call 1 M::add returned 1
         xs: ADD,
         script: "call M::add(2)\ncall M::add(1, 2, 3)\n",
         glue: ADD_GLUE,
-        told: "boot returned
+        transcript: "boot returned
   live 0 marks 0 scopes 0
 call 1 M::add croaked \"Usage: M::add(a, b)\"
   arg 0 = 2
@@ -111,7 +112,7 @@ XS(boot_M)
     XSRETURN_YES;
 }
 ",
-        told: "boot returned
+        transcript: "boot returned
   live 0 marks 0 scopes 0
 call 1 M::big returned 1
   item 0 = 2147483647
@@ -154,7 +155,7 @@ XS(boot_M)
     XSRETURN_YES;
 }
 ",
-        told: "boot returned
+        transcript: "boot returned
   live 0 marks 0 scopes 0
 call 1 M::answer returned 1
   item 0 = 42
@@ -196,7 +197,7 @@ XS(boot_N__M)
     XSRETURN_YES;
 }
 ",
-        told: "boot returned
+        transcript: "boot returned
   live 0 marks 0 scopes 0
 call 1 N::M::add returned 1
   item 0 = -5
@@ -238,7 +239,7 @@ XS(boot_Foo)
     XSRETURN_YES;
 }
 ",
-        told: "boot returned
+        transcript: "boot returned
   live 0 marks 0 scopes 0
 call 1 Bar::Baz::sum_of returned 1
   item 0 = 123
@@ -284,7 +285,7 @@ XS(boot_A_1)
     XSRETURN_YES;
 }
 ",
-        told: "boot returned
+        transcript: "boot returned
   live 0 marks 0 scopes 0
 call 1 A_1::_f2 returned 1
   item 0 = 8
@@ -293,7 +294,7 @@ call 1 A_1::_f2 returned 1
   live 0 marks 0 scopes 0
 ",
     },
-    // One parameter twice, behind a tab.
+    // One parameter twice, after a tab.
     Example {
         xs: "MODULE = M PACKAGE = M\n\nint\ntwice(int a, int b)\n  CODE:\n\tRETVAL = a + a;\n  OUTPUT:\n    RETVAL\n",
         script: "call M::twice(-21, 5)\n",
@@ -326,7 +327,7 @@ XS(boot_M)
     XSRETURN_YES;
 }
 ",
-        told: "boot returned
+        transcript: "boot returned
   live 0 marks 0 scopes 0
 call 1 M::twice returned 1
   item 0 = -42
@@ -368,7 +369,7 @@ XS(boot_M)
     XSRETURN_YES;
 }
 ",
-        told: "boot returned
+        transcript: "boot returned
   live 0 marks 0 scopes 0
 call 1 M::next returned 1
   item 0 = 42
@@ -382,7 +383,7 @@ call 1 M::next returned 1
         xs: ADD,
         script: "call M::add(4294967297, 1)\ncall M::add(-4294967297, 9223372036854775807)\n",
         glue: ADD_GLUE,
-        told: "boot returned
+        transcript: "boot returned
   live 0 marks 0 scopes 0
 call 1 M::add returned 1
   item 0 = 2
@@ -401,7 +402,7 @@ call 2 M::add returned 1
         xs: ADD,
         script: "call M::nope()\n\ncall M::add()\n",
         glue: ADD_GLUE,
-        told: "boot returned
+        transcript: "boot returned
   live 0 marks 0 scopes 0
 call 1 M::nope croaked \"Undefined subroutine &M::nope called\"
   live 0 marks 0 scopes 0
@@ -409,12 +410,12 @@ call 3 M::add croaked \"Usage: M::add(a, b)\"
   live 0 marks 0 scopes 0
 ",
     },
-    // The script goes on behind a croak and behind a call, and ends behind a trap.
+    // The script goes on after a croak and after a call, and ends after a trap.
     Example {
         xs: ADD,
         script: "call M::add()\ncall M::add(-2, 2147483647)\ncall M::add(2147483647, 1)\ncall M::add(1, 1)\n",
         glue: ADD_GLUE,
-        told: "boot returned
+        transcript: "boot returned
   live 0 marks 0 scopes 0
 call 1 M::add croaked \"Usage: M::add(a, b)\"
   live 0 marks 0 scopes 0
@@ -431,7 +432,7 @@ call 3 M::add trapped Overflow
         xs: ADD,
         script: "call M::add(-2147483647, -1)\ncall M::add(-2147483648, -1)\n",
         glue: ADD_GLUE,
-        told: "boot returned
+        transcript: "boot returned
   live 0 marks 0 scopes 0
 call 1 M::add returned 1
   item 0 = -2147483648
@@ -474,7 +475,7 @@ XS(boot_M)
     XSRETURN_YES;
 }
 ",
-        told: "boot returned
+        transcript: "boot returned
   live 0 marks 0 scopes 0
 ",
     },

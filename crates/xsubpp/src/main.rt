@@ -2,17 +2,17 @@
 #![tactic(auto)]
 
 mod answer;
+mod command_line;
 #[cfg(test)]
 mod examples;
-mod reading;
-mod refusal;
+mod fault_lines;
+mod file_reading;
 mod status;
 #[cfg(test)]
 mod tests;
 mod top;
 #[cfg(test)]
 mod wide_examples;
-mod words;
 
 pub use status::Status;
 use std::process::ExitCode;
@@ -32,7 +32,8 @@ fn main(rt: HostRuntime) -> ExitCode {
     ExitCode::from(status.number())
 }
 
-// The words behind the program's name. A word that is no text makes the whole list no command, so then there are none.
+// The words after the program's name. A word that is no text makes the whole list no command, so
+// then there are none.
 fn words_of<R: Env + AllocGlobal>(rt: &R) -> Result<Vec<Bytes>, Memory> {
     let mut words = Vec::new(rt.alloc());
     match env::args(rt) {

@@ -1,8 +1,9 @@
 //! How a run of the program ends.
 ghost use Rattle.std.specs.Prelude.{◌≡◌};
-ghost use Rattle.xsubpp.specs.Numbers.{number_of};
+ghost use Rattle.xsubpp.specs.StatusNumbers.{number_of};
 
-/// How a run of the program ends. The process ends with the status's number, which counts from 0 in this order.
+/// How a run of the program ends. The process ends with the status's number, which counts from 0 in
+/// this order.
 #[derive(Clone, Copy, Debug, PartialEq, Eq)]
 pub enum Status {
     /// The text is out.

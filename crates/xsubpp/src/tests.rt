@@ -64,12 +64,12 @@ fn comes_out(alloc: Global, example: &Example) -> Result<bool, Fail> {
     let mut desk = desk(alloc, example.xs.as_bytes(), example.script.as_bytes())?;
     Ok(
         writes(alloc, &COMPILE, &mut desk, example.glue)?
-            && writes(alloc, &CALL, &mut desk, example.told)?
+            && writes(alloc, &CALL, &mut desk, example.transcript)?
             && writes(alloc, &CHECK, &mut desk, "accepted\n")?,
     )
 }
 
-// With ample memory, so that none of these runs ends for want of it.
+// With ample memory, so that none of these runs runs out of it.
 #[test]
 fn worked_examples(rt: HostRuntime) -> Result<(), Fail> {
     for example in &EXAMPLES {
@@ -129,7 +129,7 @@ fn usages(rt: HostRuntime) -> Result<(), Fail> {
     Ok(())
 }
 
-// Whether a file that words name is told as missing.
+// Whether a file that words name is reported as missing.
 fn misses(alloc: Global, words: &[&str], line: &str) -> Result<bool, Fail> {
     refuses(alloc, words, ADD.as_bytes(), b"", Status::Missing, line)
 }

@@ -34,7 +34,7 @@ XS(boot_M)
     XSRETURN_YES;
 }
 ",
-        told: "boot returned
+        transcript: "boot returned
   live 0 marks 0 scopes 0
 call 1 M::same returned 1
   item 0 = -5
@@ -122,7 +122,7 @@ XS(boot_Sums)
     XSRETURN_YES;
 }
 ",
-        told: "boot returned
+        transcript: "boot returned
   live 0 marks 0 scopes 0
 call 2 Sums::double returned 1
   item 0 = 42
@@ -180,7 +180,7 @@ XS(boot_A__B)
     XSRETURN_YES;
 }
 ",
-        told: "boot returned
+        transcript: "boot returned
   live 0 marks 0 scopes 0
 call 1 one_more returned 1
   item 0 = 2
@@ -226,7 +226,7 @@ XS(boot_M)
     XSRETURN_YES;
 }
 ",
-        told: "boot returned
+        transcript: "boot returned
   live 0 marks 0 scopes 0
 call 1 M::f returned 1
   item 0 = 7
@@ -287,7 +287,7 @@ XS(boot_M)
     XSRETURN_YES;
 }
 ",
-        told: "boot returned
+        transcript: "boot returned
   live 0 marks 0 scopes 0
 call 1 M:: returned 1
   item 0 = 3
@@ -311,7 +311,7 @@ XS(boot_M)
     XSRETURN_YES;
 }
 ",
-        told: "boot returned
+        transcript: "boot returned
   live 0 marks 0 scopes 0
 call 1 M::add croaked \"Undefined subroutine &M::add called\"
   arg 0 = 1

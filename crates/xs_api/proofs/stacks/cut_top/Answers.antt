@@ -1,5 +1,5 @@
 use Rattle.std.proofs.Common.{reverse, ap, ◌∙◌}
-use Rattle.xs_api.proofs.Cuts.{cut-reverse}
+use Rattle.xs_api.proofs.StackCuts.{cut-reverse}
 use Rattle.xs_api.proofs.stacks.cut_top.Goals as goal
 
 pub returns : goal.returns

@@ -7,7 +7,7 @@ use Rattle.xs_base.proofs.cutting.lines.Given as goal
 abbrev pub invariant-loop-end : goal.invariant-loop-end
 invariant-loop-end l =
     record {
-      told : l.all ++ numbered l.number (lines l.rest) ≡ lines_of l.src;
+      reported : l.all ++ numbered l.number (lines l.rest) ≡ lines_of l.src;
       room : l.number + length l.rest ≤ length l.src + 1;
     }
 

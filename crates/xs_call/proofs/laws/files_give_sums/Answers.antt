@@ -1,4 +1,4 @@
-use Rattle.xs_call.proofs.Join.{each_file}
+use Rattle.xs_call.proofs.JobsJoin.{each_file}
 use Rattle.xs_call.proofs.laws.files_give_sums.Goals as goal
 
 pub returns : goal.returns

@@ -1,6 +1,6 @@
 use Rattle.std.proofs.Common.{◌≡◌, drop}
-use Rattle.xs_call.specs.Running.{args_made}
-use Rattle.xs_machine.specs.Views.{code_in, mach_of}
+use Rattle.xs_sim.specs.MadeArguments.{args_made}
+use Rattle.xs_machine.specs.MachineViews.{code_in, mach_of}
 use Rattle.xs_machine.specs.Machine.{with_world}
 use Rattle.xs_call.proofs.Arguments.{before}
 use Rattle.xs_call.proofs.running.make_arguments.Given as goal

@@ -1,14 +1,14 @@
 use Rattle.std.proofs.Common.{map}
-use Rattle.xs_csyn.specs.Tree.{exprs_of}
-use Rattle.xs_csyn.specs.View.{plain, plain_place}
+use Rattle.xs_csyn.specs.SyntaxTree.{exprs_of}
+use Rattle.xs_csyn.specs.TreeViews.{expr_tree, place_tree}
 use Rattle.xs_ccheck.proofs.ExprSizes.{expr_size, exprs_size, place_size}
 use Rattle.xs_ccheck.proofs.resolve_exprs.+expr.Given as goal
 
 abbrev pub decreases-expr : goal.decreases-expr
-decreases-expr l = expr_size (plain l.e.now)
+decreases-expr l = expr_size (expr_tree l.e.now)
 
 abbrev pub decreases-exprs : goal.decreases-exprs
-decreases-exprs l = exprs_size (exprs_of (map plain l.args.now))
+decreases-exprs l = exprs_size (exprs_of (map expr_tree l.args.now))
 
 abbrev pub decreases-place_in : goal.decreases-place_in
-decreases-place_in l = place_size (plain_place l.place.now)
+decreases-place_in l = place_size (place_tree l.place.now)

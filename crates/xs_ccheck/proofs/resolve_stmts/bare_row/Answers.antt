@@ -1,11 +1,8 @@
 use Rattle.std.proofs.Common.{◌≡◌, ◌∙◌, ap, subst}
-use Rattle.std.specs.Prelude.{[]}
-use Rattle.xs_ccheck.specs.Arena.{row_of}
-use Rattle.xs_ccheck.specs.Growth.{HasNode, tree_in, trees_in}
+use Rattle.xs_ccheck.specs.Growth.{HasNode, tree_in}
 use Rattle.xs_ccheck.specs.ResolvingStmts.{done_in, GivesStmt}
-use Rattle.xs_ccheck.specs.Tree.{ApiRow, Forget, NoTrees}
+use Rattle.xs_ccheck.specs.TypedTree.{ApiRow, Forget, NoTrees}
 use Rattle.xs_ccheck.specs.Typing.{done}
-use Rattle.xs_ccheck.proofs.Growing.{row_same}
 use Rattle.xs_ccheck.proofs.Kept.{keeps_on, resolves_on}
 use Rattle.xs_ccheck.proofs.resolve_stmts.bare_row.Goals as goal
 
@@ -14,7 +11,8 @@ returns c = λ scope.
     let old = c.args.nodes.now in
     let one = c.add.new.self in
     let two = c.add-2.new.self in
-    let same : tree_in two c.in_ok-row.row ≡ ApiRow (row_of [] c.args.row) NoTrees =
-    c.in_ok-row.ensures.tree ∙ ap (λ r. ApiRow r (trees_in one c.in_ok-none.none)) (row_same [] one.texts.items c.args.row c.requires) ∙ ap (ApiRow (row_of [] c.args.row)) c.in_ok-none.ensures.trees in
-    resolves_on (done_in tree_in scope) HasNode c.done.result old two c.done.new.nodes _ (keeps_on old one two c.in_ok-none.ensures.keeps c.in_ok-row.ensures.keeps)
+    let same : tree_in two c.in_ok-row.row ≡ ApiRow c.args.row NoTrees =
+    c.in_ok-row.ensures.tree ∙ ap (ApiRow c.args.row) c.in_ok-none.ensures.trees in
+    resolves_on (done_in tree_in scope) HasNode c.done.result old two c.done.new.nodes _
+    (keeps_on old one two c.in_ok-none.ensures.keeps c.in_ok-row.ensures.keeps)
     (subst (λ t. GivesStmt c.done.result two c.done.new.nodes scope (done scope (Forget t))) same (c.done.ensures scope))

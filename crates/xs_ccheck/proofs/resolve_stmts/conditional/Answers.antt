@@ -1,7 +1,7 @@
 use Rattle.std.proofs.Common.{◌≡◌, ◌∙◌, ap, subst}
 use Rattle.xs_ccheck.specs.Growth.{HasNode, tree_in}
 use Rattle.xs_ccheck.specs.ResolvingStmts.{done_in, GivesStmt}
-use Rattle.xs_ccheck.specs.Tree.{Block, If, NoTrees}
+use Rattle.xs_ccheck.specs.TypedTree.{Block, If, NoTrees}
 use Rattle.xs_ccheck.specs.Typing.{done}
 use Rattle.xs_ccheck.proofs.Kept.{keeps_on, resolves_on}
 use Rattle.xs_ccheck.proofs.resolve_stmts.conditional.Goals as goal
@@ -13,7 +13,8 @@ returns c = λ scope.
     let two = c.add-2.new.self in
     let keeps = keeps_on old one two c.in_ok-none.ensures.keeps c.in_ok-nothing.ensures.keeps in
     let nothing : tree_in two c.in_ok-nothing.nothing ≡ Block NoTrees = c.in_ok-nothing.ensures.tree ∙ ap Block c.in_ok-none.ensures.trees in
-    let same : If (tree_in two c.args.test) (tree_in two c.args.branch) (tree_in two c.in_ok-nothing.nothing) ≡ If (tree_in old c.args.test) (tree_in old c.args.branch) (Block NoTrees) =
+    let same : If (tree_in two c.args.test) (tree_in two c.args.branch) (tree_in two c.in_ok-nothing.nothing)
+    ≡ If (tree_in old c.args.test) (tree_in old c.args.branch) (Block NoTrees) =
     ap (λ t. If t (tree_in two c.args.branch) (tree_in two c.in_ok-nothing.nothing)) (keeps.tree c.args.test c.requires.test_in)
     ∙ ap (λ t. If (tree_in old c.args.test) t (tree_in two c.in_ok-nothing.nothing)) (keeps.tree c.args.branch c.requires.branch_in)
     ∙ ap (If (tree_in old c.args.test) (tree_in old c.args.branch)) nothing in

@@ -1,5 +1,5 @@
 use Rattle.std.proofs.Common.{◌≡◌, ◌+◌, drop}
-use Rattle.xs_csyn.specs.Exprs as spec
+use Rattle.xs_csyn.specs.ExpressionReader as spec
 use Rattle.xs_csyn.proofs.cursor.count_stars.Given as goal
 
 abbrev pub invariant-loop-t : goal.invariant-loop-t

@@ -1,6 +1,6 @@
 use Rattle.std.proofs.Common.{◌≡◌, ◌+◌, ◌-◌, ◌*◌, ◌≤◌}
-use Rattle.xs_csyn.specs.Exprs as spec
-use Rattle.xs_csyn.specs.View.{found, found_all}
+use Rattle.xs_csyn.specs.ExpressionReader as spec
+use Rattle.xs_csyn.specs.TreeViews.{found, found_all}
 use Rattle.xs_csyn.proofs.exprs.+expr.Given as goal
 
 abbrev pub decreases-expr : goal.decreases-expr
@@ -35,7 +35,8 @@ decreases-whole l = 16 * l.below + 7
 
 abbrev pub invariant-climb-loop-turn : goal.invariant-climb-loop-turn
 invariant-climb-loop-turn l = record {
-  read : spec.climb (spec.expr l.below) l.below l.operands l.line l.below (found l.fn.left) l.fn.cursor ≡ spec.climb (spec.expr l.below) l.below l.operands l.line (l.below - l._turn) (found l.left) l.cursor;
+  read : spec.climb (spec.expr l.below) l.below l.operands l.line l.below (found l.fn.left) l.fn.cursor
+      ≡ spec.climb (spec.expr l.below) l.below l.operands l.line (l.below - l._turn) (found l.left) l.cursor;
   within : l.left.height ≤ l.below + 1;
 }
 

@@ -1,7 +1,7 @@
 use Rattle.std.proofs.Common.{rules, arith}
 use Rattle.std.proofs.lemmas.Grind.{common_steps}
-use Rattle.xs_csyn.specs.Files.{items_from}
-use Rattle.xs_csyn.specs.View.{item_trees}
+use Rattle.xs_csyn.specs.FileReader.{items_from}
+use Rattle.xs_csyn.specs.TreeViews.{item_trees}
 use Rattle.xs_base.proofs.Turns.{one_more}
 use Rattle.xs_csyn.proofs.file.items.Goals as goal
 

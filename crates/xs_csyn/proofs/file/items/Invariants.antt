@@ -1,6 +1,6 @@
 use Rattle.std.proofs.Common.{◌≡◌, ◌-◌}
-use Rattle.xs_csyn.specs.Files as spec
-use Rattle.xs_csyn.specs.View.{item_trees}
+use Rattle.xs_csyn.specs.FileReader as spec
+use Rattle.xs_csyn.specs.TreeViews.{item_trees}
 use Rattle.xs_csyn.proofs.file.items.Given as goal
 
 abbrev pub invariant-loop-turn : goal.invariant-loop-turn

@@ -1,5 +1,5 @@
-use Rattle.xs_csyn.proofs.CompleteFiles.{read_complete}
-use Rattle.xs_csyn.proofs.SoundFiles.{read_sound}
+use Rattle.xs_csyn.proofs.FilesComplete.{read_complete}
+use Rattle.xs_csyn.proofs.FilesSound.{read_sound}
 use Rattle.xs_csyn.proofs.file.read_file.Goals as goal
 
 pub returns-clause-sound : goal.returns-clause-sound

@@ -1,6 +1,6 @@
 use Rattle.std.proofs.Common.{◌≡◌, ◌+◌, ◌-◌, ◌*◌}
-use Rattle.xs_csyn.specs.Stmts as spec
-use Rattle.xs_csyn.specs.View.{plain_stmts}
+use Rattle.xs_csyn.specs.StatementReader as spec
+use Rattle.xs_csyn.specs.TreeViews.{stmt_trees}
 use Rattle.xs_csyn.proofs.stmts.+stmt.Given as goal
 
 abbrev pub decreases-stmt : goal.decreases-stmt
@@ -19,4 +19,5 @@ abbrev pub decreases-condition : goal.decreases-condition
 decreases-condition l = 8 * l.below + 1
 
 abbrev pub invariant-parts-loop-turn : goal.invariant-parts-loop-turn
-invariant-parts-loop-turn l = spec.parts (spec.stmt l.below) l.fn.cursor ≡ spec.parts_from (spec.stmt l.below) (l._turn-end - l._turn) (plain_stmts l.all) l.cursor
+invariant-parts-loop-turn l = spec.parts (spec.stmt l.below) l.fn.cursor
+    ≡ spec.parts_from (spec.stmt l.below) (l._turn-end - l._turn) (stmt_trees l.all) l.cursor

@@ -15,7 +15,8 @@ loop-b-preserved c =
     let s = step c.loop-b.state b in
     record {
       read = c.loop-b.invariant.read ∙ ap (with_front c.loop-b.out) (tokens_from-drop c.args.file c.loop-b.state at all c.loop-b-test.true)
-          ∙ goes_on c.loop-b.out c.step.new.out (tokens_in c.args.file s.lexemes) (tokens_from c.args.file s.state (drop (at + 1) all)) c.in_ok-state.ensures.read.0
+          ∙ goes_on c.loop-b.out c.step.new.out (tokens_in c.args.file s.lexemes)
+          (tokens_from c.args.file s.state (drop (at + 1) all)) c.in_ok-state.ensures.read.0
           ∙ ap (λ t. with_front c.step.new.out (tokens_from c.args.file t (drop (at + 1) all))) (sym c.in_ok-state.ensures.read.1);
       line = omega (arith, c.in_ok-state.ensures.line);
     }
@@ -28,4 +29,5 @@ returns-in_err-state c =
     let s = step c.loop-b.state (get_or all at 0) in
     let p = err_from_is_err_and c.from_residual.result c.from_residual.ensures.1 in
     rw (p.1, p.2, c.loop-b.invariant.read, tokens_from-drop c.args.file c.loop-b.state at all c.loop-b-test.true)
-    (fails_then _ c.loop-b.out (tokens_in c.args.file s.lexemes) (λ front. with_front front (tokens_from c.args.file s.state (drop (at + 1) all))) c.in_err-state.ensures.read)
+    (fails_then _ c.loop-b.out (tokens_in c.args.file s.lexemes) (λ front. with_front front (tokens_from c.args.file s.state (drop (at + 1) all)))
+    c.in_err-state.ensures.read)

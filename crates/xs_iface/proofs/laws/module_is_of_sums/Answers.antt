@@ -1,4 +1,4 @@
-use Rattle.xs_iface.proofs.Sums.{module_gives_sums}
+use Rattle.xs_iface.proofs.ModulesAreSums.{module_gives_sums}
 use Rattle.xs_iface.proofs.laws.module_is_of_sums.Goals as goal
 
 pub returns : goal.returns

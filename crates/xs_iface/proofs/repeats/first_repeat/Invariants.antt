@@ -1,5 +1,6 @@
 use Rattle.std.proofs.Common.{◌≡◌, [], drop, map, take}
-use Rattle.xs_iface.specs.Iface.{first_fault, name_fault}
+use Rattle.xs_base.specs.Faults.{first_fault}
+use Rattle.xs_iface.specs.Iface.{name_fault}
 use Rattle.xs_iface.specs.Repeats.{names_of}
 use Rattle.xs_iface.proofs.repeats.first_repeat.Given as goal
 

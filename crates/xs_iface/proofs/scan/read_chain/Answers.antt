@@ -9,5 +9,6 @@ loop-turn-preserved c =
     let is_more : end - turn ≡ suc (end - (turn + 1)) = omega arith in
     let all : c.push.new.self ≡ c.loop-turn.words ++ c.cut_run.result.0.now ∷ [] = search rules in
     c.loop-turn.invariant
-    ∙ one_more (end - (turn + 1)) (end - turn) c.args.divider.now c.loop-turn.rest.now c.cut_run.result.0.now c.cut_run.result.1.now c.in-Some.next.now c.loop-turn.words c.push.new.self is_more
-    c.cut_run.ensures.front c.cut_run.ensures.behind c.in-Some.ensures all
+    ∙ one_more (end - (turn + 1)) (end - turn) c.args.divider.now c.loop-turn.rest.now c.cut_run.result.0.now c.cut_run.result.1.now c.in-Some.next.now
+    c.loop-turn.words c.push.new.self is_more
+    c.cut_run.ensures.front c.cut_run.ensures.after c.in-Some.ensures all

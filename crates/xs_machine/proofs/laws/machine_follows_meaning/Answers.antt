@@ -1,4 +1,4 @@
-use Rattle.xs_api.specs.Rows.{counted_rows}
+use Rattle.xs_machine.specs.Dispatch.{counted_rows}
 use Rattle.xs_machine.proofs.Follows.{follows}
 use Rattle.xs_machine.proofs.laws.machine_follows_meaning.Goals as goal
 

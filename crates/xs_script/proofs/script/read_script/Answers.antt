@@ -1,4 +1,4 @@
-use Rattle.xs_script.proofs.Meanings.{script_means, script_is}
+use Rattle.xs_script.proofs.MeaningsAgree.{script_means, script_is}
 use Rattle.xs_script.proofs.script.read_script.Goals as goal
 
 pub returns-clause-sound : goal.returns-clause-sound

@@ -1,5 +1,5 @@
 use Rattle.std.proofs.Common.{◌≡◌, ◌++◌, drop}
-use Rattle.xs_csyn.specs.View.{plain_stmts}
+use Rattle.xs_csyn.specs.TreeViews.{stmt_trees}
 use Rattle.xs_stub.specs.Intended.{inputs_from}
 use Rattle.xs_stub.proofs.glue_stmts.with_inputs.Given as goal
 
@@ -7,6 +7,6 @@ use Rattle.xs_stub.proofs.glue_stmts.with_inputs.Given as goal
 abbrev pub invariant-loop-param : goal.invariant-loop-param
 invariant-loop-param l =
     record {
-      stmts : plain_stmts l.all ++ inputs_from l.place (drop l.param-index l.params) ≡ plain_stmts l.fn.all ++ inputs_from 0 l.params;
-      place : l.place ≡ l.param-index;
+      stmts : stmt_trees l.all ++ inputs_from l.index (drop l.param-index l.params) ≡ stmt_trees l.fn.all ++ inputs_from 0 l.params;
+      index : l.index ≡ l.param-index;
     }

@@ -6,6 +6,6 @@ use Rattle.xs_stub.proofs.writer.write_inputs.Given as goal
 abbrev pub invariant-loop-param : goal.invariant-loop-param
 invariant-loop-param l =
     record {
-      text : l.text ++ inputs_text l.place (drop l.param-index l.params) ≡ inputs_text 0 l.params;
-      place : l.place ≡ l.param-index;
+      text : l.text ++ inputs_text l.index (drop l.param-index l.params) ≡ inputs_text 0 l.params;
+      index : l.index ≡ l.param-index;
     }

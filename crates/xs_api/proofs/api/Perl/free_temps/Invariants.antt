@@ -1,5 +1,5 @@
 use Rattle.std.proofs.Common.{◌≡◌, vec_len}
-use Rattle.xs_api.specs.Views.{world_of}
+use Rattle.xs_api.specs.PerlViews.{world_of}
 use Rattle.xs_api.specs.World.{free_above}
 use Rattle.xs_api.proofs.api.Perl.free_temps.Given as goal
 

@@ -6,5 +6,9 @@ use Rattle.xs_ccheck.proofs.code.Typed.callee.Goals as goal
 
 pub returns-in-Some-function_in : goal.returns-in-Some-function_in
 returns-in-Some-function_in c =
-    let t = c.args.self.now in
-    (function_of t.texts.items t.nodes.items c.in-Some-function_in.function.now, ap (function_at (code_of t)) c.in-Some.is ∙ callee_is t c.in-Some.f (Some c.in-Some-function_in.function.now) c.in-Some-function_in.ensures, (refl, refl))
+    let t = c.args.self.now in (
+      function_of t.texts.items t.nodes.items c.in-Some-function_in.function.now,
+      ap (function_at (code_of t)) c.in-Some.is
+          ∙ callee_is t c.in-Some.f (Some c.in-Some-function_in.function.now) c.in-Some-function_in.ensures,
+      (refl, refl),
+    )

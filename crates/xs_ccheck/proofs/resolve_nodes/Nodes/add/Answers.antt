@@ -3,4 +3,5 @@ use Rattle.xs_ccheck.proofs.Kept.{added}
 use Rattle.xs_ccheck.proofs.resolve_nodes.Nodes.add.Goals as goal
 
 pub returns : goal.returns
-returns c = added c.args.self.now _ c.args.node c.in_ok-place.place (omega (arith, c.in_ok-place.ensures, c.len.ensures, c.args.self.now.nodes.ok.0)) c.requires.before c.in_ok-push.ensures.items refl refl
+returns c = added c.args.self.now _ c.args.node c.in_ok-index.index (omega (arith, c.in_ok-index.ensures, c.len.ensures, c.args.self.now.nodes.ok.0))
+    c.requires.before c.in_ok-push.ensures.items refl refl

@@ -1,7 +1,7 @@
 use Rattle.std.proofs.Common.{◌≡◌, ℕ}
 use Rattle.xs_machine.specs.Machine.{left, steps}
-use Rattle.xs_api.specs.Rows.{counted_rows}
-use Rattle.xs_machine.specs.Views.{code_in, mach_of}
+use Rattle.xs_machine.specs.Dispatch.{counted_rows}
+use Rattle.xs_machine.specs.MachineViews.{code_in, mach_of}
 use Rattle.xs_machine.proofs.machine.Machine.run_to_end.Given as goal
 
 abbrev pub invariant-loop : goal.invariant-loop

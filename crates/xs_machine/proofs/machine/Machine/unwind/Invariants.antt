@@ -1,7 +1,7 @@
 use Rattle.std.proofs.Common.{◌≡◌, vec_len}
 use Rattle.xs_machine.specs.Machine.{unwind}
-use Rattle.xs_api.specs.Rows.{counted_rows}
-use Rattle.xs_machine.specs.Views.{pending_of, state_of}
+use Rattle.xs_machine.specs.Dispatch.{counted_rows}
+use Rattle.xs_machine.specs.MachineViews.{pending_of, state_of}
 use Rattle.xs_machine.proofs.machine.Machine.unwind.Given as goal
 
 abbrev pub invariant-loop-task : goal.invariant-loop-task

@@ -1,0 +1,41 @@
+-- The statements of the laws of this crate.
+use Rattle.std.specs.Prelude.{ℕ, ◌≡◌, ◌&&◌, Bool, true, nat_lt, List, [], ◌∷◌, map, Some}
+use Rattle.xs_base.specs.FaultTexts.{codes_listed, text_of, texts}
+use Rattle.xs_base.specs.Names.{IsJoined, is_qualified_name}
+use Rattle.xs_base.specs.declared.fault_codes.TheConstants.{FILE_TOO_LONG, NO_MODULE_LINE, BAD_MODULE_LINE, PREPROCESSOR_LINE, OPEN_POD, OPEN_TYPEMAP, TOO_MANY_PARAGRAPHS, KEYWORD_LEFT_OUT, BAD_KEYWORD_VALUE, BAD_TYPEMAP_LINE, CODE_BEFORE_KIND, NO_INTERFACE_LINE, BAD_PARAMETER_LIST, PARAMETER_TWICE, TOO_MANY_PARAMETERS, PARAMETER_WITHOUT_TYPE, DECLARES_NO_PARAMETER, DEFAULT_BEFORE_PLAIN, LENGTH_OF_NO_TEXT, TYPE_NOT_TAKEN, UNKNOWN_KEYWORD, KEYWORD_OUT_OF_ORDER, KEYWORD_TWICE, OUTPUT_NAMES_NONE, BAD_ALIAS_LINE, BAD_CASE, NAME_TWICE, BAD_OVERLOAD_LINE, NO_TYPEMAP_ENTRY, FLOATING_POINT, KIND_LEFT_OUT, NO_CODE_FOR_DIRECTION, TEMPLATE_NOT_TAKEN, STRAY_BYTE, OPEN_COMMENT_OR_TEXT, LITERAL_TOO_WIDE, NO_READING_HERE, NESTED_TOO_DEEP, DEFINE_NOT_TAKEN, FLOATING_POINT_IN_C, UNKNOWN_NAME, UNKNOWN_FUNCTION, TYPES_DIFFER, DECLARED_TWICE, WRONG_NUMBER_OF_ARGUMENTS, NOT_ASSIGNABLE, WORD_NOT_ALLOWED, LEAKS_AT_END, LEAKS_AT_CROAK, USED_AFTER_GIVE_UP, STALE_BORROW, JOINS_DIFFER, LOOP_CHANGES_OWNER, PUSHES_UNHELD, RETVAL_STATE, SCOPE_NOT_CLOSED, NOT_SET, BAD_SCRIPT_LINE, UNKNOWN_VARIABLE, NAMED_TWICE_IN_SCRIPT, NUMBER_OUT_OF_RANGE, VALUE_TOO_DEEP, TOO_MANY_IN_SCRIPT, NOT_BUILT}
+
+-- each number is less than the next
+abbrev pub ascends : List ℕ → Bool
+ascends [] = true
+ascends (n ∷ []) = true
+ascends (n ∷ m ∷ more) = nat_lt n m && ascends (m ∷ more)
+
+-- the codes of faults
+abbrev pub fault_codes : List ℕ
+fault_codes =
+    FILE_TOO_LONG ∷ NO_MODULE_LINE ∷ BAD_MODULE_LINE ∷ PREPROCESSOR_LINE ∷ OPEN_POD ∷ OPEN_TYPEMAP
+    ∷ TOO_MANY_PARAGRAPHS ∷ KEYWORD_LEFT_OUT ∷ BAD_KEYWORD_VALUE ∷ BAD_TYPEMAP_LINE
+    ∷ CODE_BEFORE_KIND ∷ NO_INTERFACE_LINE ∷ BAD_PARAMETER_LIST ∷ PARAMETER_TWICE
+    ∷ TOO_MANY_PARAMETERS ∷ PARAMETER_WITHOUT_TYPE ∷ DECLARES_NO_PARAMETER ∷ DEFAULT_BEFORE_PLAIN
+    ∷ LENGTH_OF_NO_TEXT ∷ TYPE_NOT_TAKEN ∷ UNKNOWN_KEYWORD ∷ KEYWORD_OUT_OF_ORDER ∷ KEYWORD_TWICE
+    ∷ OUTPUT_NAMES_NONE ∷ BAD_ALIAS_LINE ∷ BAD_CASE ∷ NAME_TWICE ∷ BAD_OVERLOAD_LINE
+    ∷ NO_TYPEMAP_ENTRY ∷ FLOATING_POINT ∷ KIND_LEFT_OUT ∷ NO_CODE_FOR_DIRECTION ∷ TEMPLATE_NOT_TAKEN
+    ∷ STRAY_BYTE ∷ OPEN_COMMENT_OR_TEXT ∷ LITERAL_TOO_WIDE ∷ NO_READING_HERE ∷ NESTED_TOO_DEEP
+    ∷ DEFINE_NOT_TAKEN ∷ FLOATING_POINT_IN_C ∷ UNKNOWN_NAME ∷ UNKNOWN_FUNCTION ∷ TYPES_DIFFER
+    ∷ DECLARED_TWICE ∷ WRONG_NUMBER_OF_ARGUMENTS ∷ NOT_ASSIGNABLE ∷ WORD_NOT_ALLOWED ∷ LEAKS_AT_END
+    ∷ LEAKS_AT_CROAK ∷ USED_AFTER_GIVE_UP ∷ STALE_BORROW ∷ JOINS_DIFFER ∷ LOOP_CHANGES_OWNER
+    ∷ PUSHES_UNHELD ∷ RETVAL_STATE ∷ SCOPE_NOT_CLOSED ∷ NOT_SET ∷ BAD_SCRIPT_LINE ∷ UNKNOWN_VARIABLE
+    ∷ NAMED_TWICE_IN_SCRIPT ∷ NUMBER_OUT_OF_RANGE ∷ VALUE_TOO_DEEP ∷ TOO_MANY_IN_SCRIPT
+    ∷ NOT_BUILT ∷ []
+
+-- The codes of faults are those that are listed, in ascending order, so none of them stands twice.
+-- The text of each is the one beside it.
+pub record CodesLaw : Type 0 where
+  pub listed : codes_listed ≡ fault_codes
+  pub apart : ascends codes_listed ≡ true
+  pub own : map (λ row. text_of row.0) texts ≡ map (λ row. Some row.1) texts
+
+-- A text is a qualified name just where it is identifiers joined by `::`.
+pub record QualifiedNamesLaw : Type 0 where
+  pub joined : (text : List ℕ) → is_qualified_name text ≡ true → IsJoined text
+  pub named : (text : List ℕ) → IsJoined text → is_qualified_name text ≡ true

@@ -1,8 +1,0 @@
-use Rattle.std.proofs.Common.{◌≡◌, ◌-◌, length, arith}
-use Rattle.xs_machine.proofs.Tops.{taken_split}
-use Rattle.xs_machine.proofs.work.take_operands.Goals as goal
-
-pub returns : goal.returns
-returns c =
-    let at : c.saturating_sub-at.result ≡ length c.args.stack.now.items - c.args.n = omega (arith, c.saturating_sub-at.ensures, c.len.ensures, c.args.stack.now.ok.0) in
-    rw (c.in_ok-operands.ensures.items, c.in_ok-operands.ensures.tail) (taken_split c.args.stack.now.items c.args.n c.saturating_sub-at.result at)

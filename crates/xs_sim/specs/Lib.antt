@@ -1,0 +1,4 @@
+pub mod TreeBuilders
+pub mod RunnerStates
+pub mod MadeArguments
+pub mod Laws
