@@ -122,7 +122,7 @@ pub holds_recounted : (old new : Cells) (live n k : ℕ) (c : Cell) → HeapHold
     → new ≡ slice_set old n (Some (record { value = c.value; count = k })) → HeapHolds new live
 holds_recounted old new live n k c h e s = let P : Cells → Type 0 = λ x. HeapHolds x live in subst P (sym s) (holds_kept old live n c _ h e)
 
--- an owner of several is taken
+-- an owner of several is removed
 pub lowers_kept : (old now new : Cells) (n k j : ℕ) (c : Cell) → old ≡ now → cell_at n old ≡ Some c → k ≡ c.count → 2 ≤ k → j ≡ k - 1
     → new ≡ slice_set old n (Some (record { value = c.value; count = j })) → Lowers n now true new
 lowers_kept old now new n k j c same e count two less sets =

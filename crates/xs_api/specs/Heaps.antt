@@ -31,7 +31,7 @@ abbrev pub Sets : ℕ → Plain → Cells → Bool → Cells → Type 0
 Sets n p old true new = (c : Cell) × (cell_at n old ≡ Some c) × (new ≡ with_value n c p old)
 Sets n p old false new = (cell_at n old ≡ None) × (new ≡ old)
 
--- an owner is taken, or the scalar is gone
+-- an owner is removed, or the scalar is gone
 abbrev pub Lowers : ℕ → Cells → Bool → Cells → Type 0
 Lowers n old true new = (c : Cell) × (cell_at n old ≡ Some c) × (new ≡ with_lowered n c old)
 Lowers n old false new = (cell_at n old ≡ None) × (new ≡ old)

@@ -34,7 +34,7 @@ pub struct Stacks {
 }
 
 impl Stacks {
-    /// Empty stacks. This takes no memory.
+    /// Empty stacks. This allocates nothing.
     pub fn new(alloc: Global) -> Stacks
         ensures args { result.args.items ≡ [] }
         ensures top { result.top ≡ 0 }

@@ -1,11 +1,10 @@
 -- No line of a file has a byte that ends a line.
-use Rattle.std.proofs.Common.{◌≡◌, ℕ, suc, ◌+◌, ◌-◌, ◌==◌, ◌&&◌, Bool, true, false, not, cond, List, [], ◌∷◌, length, take, refl}
+use Rattle.std.proofs.Common.{◌≡◌, ℕ, ◌+◌, ◌-◌, ◌==◌, Bool, true, false, not, cond, List, [], ◌∷◌, length, take, refl}
 use Rattle.std.proofs.lemmas.Bool.{and_from, and_parts}
 use Rattle.std.specs.List.{list_all, onto_first, slice_index, slice_split}
 use Rattle.std.specs.Prelude.{if◌then◌else◌}
 use Rattle.std.specs.Str.Lines.{lines, lines_of_parts, strip_carriage_return}
 use Rattle.xs_base.specs.Lines.{has_no_end, have_no_end, lines_of, numbered}
-use Rattle.xs_base.specs.declared.source.Line.{Line}
 use Rattle.xs_base.proofs.LineSteps.{is_end}
 use Rattle.xs_base.proofs.Lists.{list_all-take}
 

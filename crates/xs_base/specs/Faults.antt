@@ -1,6 +1,6 @@
 -- Which of several faults is the first, and what is given where there is none.
 use Rattle.std.specs.Option.{option_or}
-use Rattle.std.specs.Prelude.{ℕ, Bool, ◌&&◌, ◌||◌, ◌==◌, nat_lt, if◌then◌else◌, List, [], ◌∷◌, ◌++◌, Option, None, Some, fold, Result, Ok, Err}
+use Rattle.std.specs.Prelude.{Bool, ◌&&◌, ◌||◌, ◌==◌, nat_lt, if◌then◌else◌, List, [], ◌∷◌, ◌++◌, Option, None, Some, fold, Result, Ok, Err}
 use Rattle.xs_base.specs.declared.fault.Fault.{Fault}
 
 -- The lesser line goes before, and on one line the lesser code.

@@ -18,8 +18,8 @@ use Rattle.xs_ccheck.proofs.Unlined.{types_without_lines}
 use Rattle.xs_ccheck.specs.declared.resolve_names.Local.{Local}
 use Rattle.xs_ccheck.specs.TypedTree as code
 use Rattle.xs_perlapi.specs.declared.row.Row.TheVariants.{Entry}
+use Rattle.xs_perlapi.specs.Table.{api_words, is_api_word, is_interface_word}
 use Rattle.xs_ccheck.specs.TypedTree.{Function, Tree}
-use Rattle.xs_ctok.specs.CWords.{is_interface_word}
 use Rattle.xs_ccheck.specs.Typing.{Scope, after_block, done, function, functions, is_boot_name, item, item_name, perl, index_of, stmt, typed_of, variable_of}
 use Rattle.xs_stub.specs.Intended.{boot_tree, declared_param, glue_tree, int_type, sv_pointer, work_of, xsub_tree}
 use Rattle.xs_call.specs.GlueCode.{boot_function, declarations, functions_on, glue_code, work, xsub_function}
@@ -48,11 +48,11 @@ abbrev working : List Param → Scope
 working ps = within (locals_from 0 ps ++ results (length ps)) (length ps + 1 + 1)
 
 retval_free : is_interface_word (codes "RETVAL") ≡ false
-unfolding is_interface_word
+unfolding is_interface_word is_api_word api_words
 retval_free = refl
 
 scalar_free : is_interface_word (codes "RETVALSV") ≡ false
-unfolding is_interface_word
+unfolding is_interface_word is_api_word api_words
 scalar_free = refl
 
 no_param_retval : (ps : List Param) → All (λ p. is_free p.name ≡ true) ps → All (λ p. bytes_eq p.name (codes "RETVAL") ≡ false) ps

@@ -1,20 +1,19 @@
 -- Names, as the types stage looks them up: the variables of an XSUB, and the functions of a file.
 use Rattle.std.proofs.Common.{◌≡◌, ℕ, zero, suc, ◌+◌, ◌<◌, ◌||◌, Bool, true, false, not, cond, List, [], ◌∷◌, ◌++◌, codes, map, length, slice_get, Option, Some, None, refl, sym, ap, ◌∙◌, arith}
-use Rattle.std.proofs.lemmas.Bool.{and_parts, not-true, or_parts}
+use Rattle.std.proofs.lemmas.Bool.{and_parts, both_ways, false_from_ne_true, not-true, or_parts}
 use Rattle.std.proofs.lemmas.Slice.Eq.{bytes_eq-Decides}
 use Rattle.std.specs.List.{list_any, AllByRecursion as All}
 use Rattle.std.specs.Str.{bytes_eq}
 use Rattle.xs_base.specs.Names.{is_among}
-use Rattle.xs_iface.proofs.Noted.{same_both_ways}
 use Rattle.xs_iface.specs.declared.xsub.Param.{Param}
 use Rattle.xs_base.specs.Scanning.{is_identifier}
 use Rattle.xs_iface.specs.SumForm.{Differ}
-use Rattle.xs_perlapi.specs.Table.{is_api_word}
+use Rattle.xs_perlapi.specs.Table.{is_interface_word}
 use Rattle.xs_iface.specs.ReservedWords.{is_free, is_reserved, reserved_words}
 use Rattle.xs_ccheck.specs.declared.code.ValueType.TheVariants.{Number, Scalar}
 use Rattle.xs_ccheck.specs.declared.resolve_names.Found.{Found}
 use Rattle.xs_ccheck.specs.declared.resolve_names.Local.{Local}
-use Rattle.xs_ctok.specs.CWords.{interface_words, is_interface_word, is_key_word, is_no_name, result_words}
+use Rattle.xs_ctok.specs.CWords.{is_no_name}
 use Rattle.xs_ccheck.specs.Typing.{index_from, variable_of}
 use Rattle.xs_stub.specs.Stub.{name_or_nothing}
 use Rattle.xs_values.specs.declared.kind.Kind.TheVariants.{I32}
@@ -27,28 +26,28 @@ not_reserved word h = not-true (is_reserved word) (and_parts (is_identifier word
 pub same : (name : List ℕ) → bytes_eq name name ≡ true
 same name = (bytes_eq-Decides name name).1 refl
 
--- a word that is not reserved is no word of the XS interface and no variable of the glue's results
-own_word : (word : List ℕ) → is_reserved word ≡ false → (is_among interface_words word ≡ false) × (is_among result_words word ≡ false)
+-- a word that is not reserved is no word of the XS interface, and none of the other reserved words
+own_word : (word : List ℕ) → is_reserved word ≡ false → (is_interface_word word ≡ false) × (is_among reserved_words word ≡ false)
 own_word word h =
-    let key = (or_parts (is_key_word word) (is_api_word word || is_among reserved_words word) h).0 in
-    or_parts (is_among interface_words word) (is_among result_words word)
-    (or_parts (is_no_name word) (is_among interface_words word || is_among result_words word) key).1
+    or_parts (is_interface_word word) (is_among reserved_words word)
+    (or_parts (is_no_name word) (is_interface_word word || is_among reserved_words word) h).1
 
 pub no_interface_word : (word : List ℕ) → is_reserved word ≡ false → is_interface_word word ≡ false
-unfolding is_interface_word
 no_interface_word word h = (own_word word h).0
 
--- and is another than each of these variables
-results_differ : (word : List ℕ) → is_reserved word ≡ false → (bytes_eq (codes "RETVAL") word ≡ false) × (bytes_eq (codes "RETVALSV") word ≡ false)
-results_differ word h =
-    let each = or_parts (bytes_eq (codes "RETVAL") word) (bytes_eq (codes "RETVALSV") word || false) (own_word word h).1 in
-    (each.0, (or_parts (bytes_eq (codes "RETVALSV") word) false each.1).0)
+-- and is another than each of these
+another : (other : List ℕ) → is_among reserved_words other ≡ true → (word : List ℕ) → is_reserved word ≡ false → bytes_eq word other ≡ false
+another other among word h =
+    false_from_ne_true (bytes_eq word other)
+    (λ same. both_ways (is_among reserved_words word) (own_word word h).1 (ap (is_among reserved_words) ((bytes_eq-Decides word other).0 same) ∙ among))
 
 pub no_retval : (word : List ℕ) → is_reserved word ≡ false → bytes_eq word (codes "RETVAL") ≡ false
-no_retval word h = same_both_ways word (codes "RETVAL") ∙ (results_differ word h).0
+unfolding reserved_words
+no_retval word h = another (codes "RETVAL") refl word h
 
 pub no_scalar : (word : List ℕ) → is_reserved word ≡ false → bytes_eq word (codes "RETVALSV") ≡ false
-no_scalar word h = same_both_ways word (codes "RETVALSV") ∙ (results_differ word h).1
+unfolding reserved_words
+no_scalar word h = another (codes "RETVALSV") refl word h
 
 -- ---- variables
 

@@ -19,7 +19,7 @@ use Rattle.xs_ccheck.specs.declared.resolve_names.Local.{Local}
 use Rattle.xs_ccheck.specs.TypedTree as code
 use Rattle.xs_perlapi.specs.declared.row.Row.TheVariants.{StRead, SvIv, SvNewMortal, SvSetIv, StSet, XsReturn, XsReturnYes}
 use Rattle.xs_ccheck.specs.TypedTree.{CroakUsage, Register, Tree, Variable, ItemCount, Assign, Binary, Convert, Forget}
-use Rattle.xs_ctok.specs.CWords.{is_interface_word}
+use Rattle.xs_perlapi.specs.Table.{is_interface_word}
 use Rattle.xs_perlapi.specs.Table.{api_words, row_named}
 use Rattle.xs_ccheck.specs.Typing.{Scope, after_block, done, expr, is_in_use, literal, literal_kind, operator_of, perl, index_from, index_of, stmt, stmts, type_named, typed, variable_of, with_variable}
 use Rattle.xs_stub.specs.Intended as intended

@@ -50,7 +50,7 @@ pub fn compile(alloc: Global, xs: &Bytes) -> Result<Bytes, Refuse>
     Ok(text)
 }
 
-// The glue text of a module. No text is made that a reader of ours does not take for its length.
+// The glue text of a module. No text is made that a reader of ours does not accept for its length.
 fn glue_of(alloc: Global, m: &Module) -> Result<Bytes, Refuse>
     ensures text { Gives result (Ok (glue_text m.now)) }
     ensures short { IfOk result (λ text. length text < 2 ^ 32 - 1) }

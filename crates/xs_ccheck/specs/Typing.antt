@@ -16,7 +16,6 @@ use Rattle.xs_values.specs.declared.operator.Op.{Op}
 use Rattle.xs_values.specs.declared.operator.Op.TheVariants as op
 use Rattle.xs_values.specs.Kinds.{common_kind}
 use Rattle.xs_values.specs.Numbers.{wrapped}
-use Rattle.xs_ctok.specs.CWords.{is_interface_word}
 use Rattle.xs_csyn.specs.declared.tree.BinaryOp.{BinaryOp}
 use Rattle.xs_csyn.specs.declared.tree.BinaryOp.TheVariants as c
 use Rattle.xs_csyn.specs.declared.tree.CType.{CType}
@@ -28,7 +27,7 @@ use Rattle.xs_perlapi.specs.declared.row.ApiType.{ApiType}
 use Rattle.xs_perlapi.specs.declared.row.ApiType.TheVariants as api
 use Rattle.xs_perlapi.specs.declared.row.Row.{Row}
 use Rattle.xs_perlapi.specs.declared.row.Row.TheVariants.{Entry, StSet, XsReturnYes}
-use Rattle.xs_perlapi.specs.Table.{RowCall, row_named}
+use Rattle.xs_perlapi.specs.Table.{RowCall, is_interface_word, row_named}
 use Rattle.xs_ccheck.specs.declared.code.ValueType.{ValueType}
 use Rattle.xs_ccheck.specs.declared.code.ValueType.TheVariants as type_of
 use Rattle.xs_ccheck.specs.declared.resolve_names.Found.{Found}
@@ -249,7 +248,7 @@ usage_of line true (Some text) = typed (CroakUsage text) type_of.Void
 usage_of line true None = Err (types_differ line)
 usage_of line false text = Err (types_differ line)
 
--- croak_xs_usage takes the word cv and a text
+-- the operands of croak_xs_usage are the word cv and a text
 abbrev pub usage : ℕ → ExprTrees → Result Typed_tree Fault
 usage line NoExprs = Err (wrong_count line usage_word)
 usage line (MoreExprs a NoExprs) = Err (wrong_count line usage_word)

@@ -10,8 +10,7 @@ use std::marker::Model;
 use xs_base::fault_codes::{DECLARED_TWICE, TYPES_DIFFER, WORD_NOT_ALLOWED};
 use xs_base::{Bytes, Fault, FileOf, Memory, Refuse};
 use xs_csyn::CType;
-use xs_ctok::is_interface_word;
-use xs_perlapi::ApiType;
+use xs_perlapi::{ApiType, is_interface_word};
 use xs_values::Kind;
 
 /// A variable in scope, with its slot.

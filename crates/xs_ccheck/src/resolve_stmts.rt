@@ -36,7 +36,7 @@ fn done(nodes: &mut Nodes, node: Node) -> Result<u32, Refuse>
     Ok(index)
 }
 
-// A row that takes no operands.
+// A row without operands.
 fn bare_row(nodes: &mut Nodes, row: Row) -> Result<u32, Refuse>
     ensures { (scope : spec.Scope)
         → GivesStmt result nodes.old nodes.new scope (spec.row_done scope row) }

@@ -20,7 +20,7 @@ use Rattle.xs_csyn.specs.SyntaxTree as t
 use Rattle.xs_csyn.specs.SyntaxTree.{ExprTree, ExprTrees, PlaceTree, exprs_of}
 use Rattle.xs_ctok.specs.CWords.{is_no_name, no_name_words, type_words}
 use Rattle.xs_base.specs.Names.{is_among}
-use Rattle.xs_csyn.specs.TokenInput.{Input, Outcome, is_sign, is_sign_kind, is_key, is_key_kind, is_name_by, is_type_word, sees, sees_type, sees_name, line, line_at, next, after, expect, kind_of_token, spelling, left, a_type_word}
+use Rattle.xs_csyn.specs.TokenInput.{Input, Outcome, is_sign, is_sign_kind, is_key, is_word_kind, is_name_by, is_type_word, sees, sees_type, sees_name, line, line_at, next, after, expect, kind_of_token, spelling, left, a_type_word}
 use Rattle.xs_base.specs.Readers.{and_then, head_is}
 use Rattle.xs_csyn.specs.ExpressionReader.{Found, FoundAll, expr, at_level, whole, assignment, comparison, sum, unary, cast, climb, named, arguments, list, list_from, operator, place_of, count_stars, stars, a_type}
 use Rattle.xs_csyn.specs.Heights.{height, heights, place_height}
@@ -29,15 +29,15 @@ use Rattle.xs_csyn.specs.GlueGrammar.{Whole, Comparison, Sum, Unary, Arguments, 
 use Rattle.xs_csyn.proofs.ExpressionsSound.{unary_line, place_first}
 use Rattle.xs_csyn.proofs.FilesSound.{sum_line}
 
--- ---- marks and key words
+-- ---- marks and words
 
 sign_only : (s : TokKind) → is_sign_kind s ≡ true → s ≡ kind.Sign
 sign_only kind.Sign e = refl
 sign_only s e = absurd cc
 
-pub key_only : (s : TokKind) → is_key_kind s ≡ true → s ≡ kind.Key
-key_only kind.Key e = refl
-key_only s e = absurd cc
+pub word_only : (s : TokKind) → is_word_kind s ≡ true → s ≡ kind.Word
+word_only kind.Word e = refl
+word_only s e = absurd cc
 
 -- a token of one kind that is spelt so
 abbrev pub IsOf : TokKind → List ℕ → Token → Type 0
@@ -46,8 +46,8 @@ IsOf s text u = (u.kind ≡ s) × (u.text ≡ text)
 is_mark_of : (m : List ℕ) (u : Token) → Is m u → IsOf kind.Sign m u
 is_mark_of m u is = let h = and_parts (is_sign_kind u.kind) (bytes_eq u.text m) is in (sign_only u.kind h.0, (bytes_eq-Decides u.text m).0 h.1)
 
-pub is_key_of : (word : List ℕ) (u : Token) → IsKey word u → IsOf kind.Key word u
-is_key_of word u is = let h = and_parts (is_key_kind u.kind) (bytes_eq u.text word) is in (key_only u.kind h.0, (bytes_eq-Decides u.text word).0 h.1)
+pub is_key_of : (word : List ℕ) (u : Token) → IsKey word u → IsOf kind.Word word u
+is_key_of word u is = let h = and_parts (is_word_kind u.kind) (bytes_eq u.text word) is in (word_only u.kind h.0, (bytes_eq-Decides u.text word).0 h.1)
 
 -- a token that is one mark is another only if they are the same
 pub marks : (m n : List ℕ) (u : Token) → Is m u → is_sign n u ≡ bytes_eq m n
@@ -57,13 +57,12 @@ marks m n u is = let k = is_mark_of m u is in ap (λ s. is_sign_kind s && bytes_
 pub no_mark : (m : List ℕ) (u : Token) → is_sign_kind u.kind ≡ false → is_sign m u ≡ false
 no_mark m u other = and_left (is_sign_kind u.kind) (bytes_eq u.text m) other
 
--- a token of another kind is no key word
-no_key : (test : List ℕ → Bool) (u : Token) → is_key_kind u.kind ≡ false → (is_key_kind u.kind && test u.text) ≡ false
-no_key test u other = and_left (is_key_kind u.kind) (test u.text) other
+-- a token of another kind is none of these words
+no_key : (test : List ℕ → Bool) (u : Token) → is_word_kind u.kind ≡ false → (is_word_kind u.kind && test u.text) ≡ false
+no_key test u other = and_left (is_word_kind u.kind) (test u.text) other
 
 no_sign_by_name : (s : TokKind) (text : List ℕ) → is_name_by s text ≡ true → is_sign_kind s ≡ false
-no_sign_by_name kind.Name text e = refl
-no_sign_by_name kind.Key text e = refl
+no_sign_by_name kind.Word text e = refl
 no_sign_by_name s text e = absurd cc
 
 -- a name is no mark
@@ -159,20 +158,19 @@ mutual
 
 -- ---- what an expression begins with
 
--- a name is no key word of those that are no names
+-- a name is none of the words that are no names
 no_key_by_name : (test : List ℕ → Bool) → ((text : List ℕ) → is_no_name text ≡ false → test text ≡ false) → (s : TokKind) (text : List ℕ)
-    → is_name_by s text ≡ true → (is_key_kind s && test text) ≡ false
-no_key_by_name test none kind.Name text e = refl
-no_key_by_name test none kind.Key text e = none text (not-true (is_no_name text) e)
+    → is_name_by s text ≡ true → (is_word_kind s && test text) ≡ false
+no_key_by_name test none kind.Word text e = none text (not-true (is_no_name text) e)
 no_key_by_name test none s text e = absurd cc
 
 other_word : (word : List ℕ) → is_no_name word ≡ true → (text : List ℕ) → is_no_name text ≡ false → bytes_eq text word ≡ false
 other_word word among text none =
     false_from_ne_true (bytes_eq text word) (λ same. both_ways (is_no_name text) none (ap is_no_name ((bytes_eq-Decides text word).0 same) ∙ among))
 
--- a mark is no key word
-pub no_key_by_mark : (m : List ℕ) (u : Token) → Is m u → (test : List ℕ → Bool) → (is_key_kind u.kind && test u.text) ≡ false
-no_key_by_mark m u is test = no_key test u (ap is_key_kind (is_mark_of m u is).0)
+-- a mark is no word
+pub no_key_by_mark : (m : List ℕ) (u : Token) → Is m u → (test : List ℕ → Bool) → (is_word_kind u.kind && test u.text) ≡ false
+no_key_by_mark m u is test = no_key test u (ap is_word_kind (is_mark_of m u is).0)
 
 -- what the first token is not
 pub record Starts (ts : List Token) : Type 0 where
@@ -201,7 +199,7 @@ starts_by_mark m u ts is a b c = record {
   no_type = no_key_by_mark m u is (is_among type_words);
 }
 
-starts_by_kind : (u : Token) (ts : List Token) → is_sign_kind u.kind ≡ false → is_key_kind u.kind ≡ false → Starts (u ∷ ts)
+starts_by_kind : (u : Token) (ts : List Token) → is_sign_kind u.kind ≡ false → is_word_kind u.kind ≡ false → Starts (u ∷ ts)
 starts_by_kind u ts sign key = record {
   no_close = no_mark (codes ")") u sign;
   no_block = no_mark (codes "{") u sign;
@@ -212,8 +210,8 @@ starts_by_kind u ts sign key = record {
 
 unary_starts : {a : ExprTree} {ts us : List Token} → Unary a ts us → Starts ts
 unary_starts (g.cast {t = u} {ts = ts} op ty cl x) = starts_by_mark (codes "(") u ts op refl refl refl
-unary_starts (g.int {value = value} {t = u} {ts = ts} k) = starts_by_kind u ts (ap is_sign_kind k) (ap is_key_kind k)
-unary_starts (g.text {t = u} {ts = ts} k) = starts_by_kind u ts (ap is_sign_kind k) (ap is_key_kind k)
+unary_starts (g.int {value = value} {t = u} {ts = ts} k) = starts_by_kind u ts (ap is_sign_kind k) (ap is_word_kind k)
+unary_starts (g.text {t = u} {ts = ts} k) = starts_by_kind u ts (ap is_sign_kind k) (ap is_word_kind k)
 unary_starts (g.name {t = n} {ts = ts} e) = starts_by_name n ts e
 unary_starts (g.call {t = n} {u = u} {ts = ts} e op x) = starts_by_name n (u ∷ ts) e
 
@@ -316,8 +314,7 @@ module _ (file : FileOf) (last : ℕ) where
   named_by : (m : ℕ) (s : TokKind) (x : List ℕ) (l : ℕ) (ts : List Token) → is_name_by s x ≡ true
       → unary (expr m) (at (record { kind = s; text = x; line = l } ∷ ts)) ≡ named (expr m) l (at (record { kind = s; text = x; line = l } ∷ ts))
   unfolding unary after sees kind_of_token sees_name line
-  named_by m kind.Name x l ts e = refl
-  named_by m kind.Key x l ts e = rw e refl
+  named_by m kind.Word x l ts e = rw e refl
   named_by m s x l ts e = absurd cc
 
   -- the first operand, and what it stops at

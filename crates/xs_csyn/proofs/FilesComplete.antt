@@ -16,7 +16,7 @@ use Rattle.xs_csyn.specs.SyntaxTree as t
 use Rattle.xs_csyn.specs.SyntaxTree.{ExprTree, StmtTree, StmtTrees, FunctionTree, ItemTree, XsFunction, stmts_of}
 use Rattle.xs_ctok.specs.CWords.{type_words}
 use Rattle.xs_base.specs.Names.{is_among}
-use Rattle.xs_csyn.specs.TokenInput.{Input, Outcome, is_sign, is_sign_kind, is_key, is_key_kind, is_quoted, is_type_word, sees, sees_key, sees_type, sees_name, line, next, after, expect, expect_key, spelling, left, a_name}
+use Rattle.xs_csyn.specs.TokenInput.{Input, Outcome, is_sign, is_sign_kind, is_key, is_word_kind, is_quoted, is_type_word, sees, sees_key, sees_type, sees_name, line, next, after, expect, expect_key, spelling, left, a_name}
 use Rattle.xs_base.specs.Readers.{head_is}
 use Rattle.xs_csyn.specs.ExpressionReader.{expr}
 use Rattle.xs_csyn.specs.StatementReader.{max_nesting, an_expr, is_word_form, is_new_xs, sees_word_form, sees_new_xs, word_form, new_xs, effect, simple, declaration, part, parts_from, parts, block, condition, opens, stmt}
@@ -26,19 +26,19 @@ use Rattle.xs_csyn.specs.TreeViews.{file_tree}
 use Rattle.xs_csyn.specs.GlueGrammar as g
 use Rattle.xs_csyn.specs.GlueGrammar.{Whole, AType, Declaration, Statement, Parts, File, IsTextOf, begins_body, Is, IsKey, MayName, line_of}
 use Rattle.xs_csyn.proofs.FilesSound.{whole_line}
-use Rattle.xs_csyn.proofs.ExpressionsComplete.{key_only, is_key_of, marks, no_mark, names_no_mark, no_key_by_mark, Stop, Starts, whole_starts, StopsWhole, closes, ends, at, type_done, whole_done, whole_shrinks, type_shrinks}
+use Rattle.xs_csyn.proofs.ExpressionsComplete.{word_only, is_key_of, marks, no_mark, names_no_mark, no_key_by_mark, Stop, Starts, whole_starts, StopsWhole, closes, ends, at, type_done, whole_done, whole_shrinks, type_shrinks}
 
 -- ---- words
 
--- what is known of a key word at the front
+-- what is known of a word of the grammar at the front
 key_no_mark : (word m : List ℕ) (n : Token) → IsKey word n → is_sign m n ≡ false
 key_no_mark word m n e = no_mark m n (ap is_sign_kind (is_key_of word n e).0)
 
 key_is : (word other : List ℕ) (n : Token) → IsKey word n → is_key other n ≡ bytes_eq word other
-key_is word other n e = let k = is_key_of word n e in ap (λ s. is_key_kind s && bytes_eq n.text other) k.0 ∙ ap (λ x. bytes_eq x other) k.1
+key_is word other n e = let k = is_key_of word n e in ap (λ s. is_word_kind s && bytes_eq n.text other) k.0 ∙ ap (λ x. bytes_eq x other) k.1
 
 key_type : (word : List ℕ) (n : Token) → IsKey word n → is_type_word n ≡ is_among type_words word
-key_type word n e = let k = is_key_of word n e in ap (λ s. is_key_kind s && is_among type_words n.text) k.0 ∙ ap (is_among type_words) k.1
+key_type word n e = let k = is_key_of word n e in ap (λ s. is_word_kind s && is_among type_words n.text) k.0 ∙ ap (is_among type_words) k.1
 
 -- ---- sizes
 
@@ -74,7 +74,7 @@ type_starts (g.type_word e s) = e
 
 type_no_end : {to : CType} {ts us : List Token} → AType to ts us → Stop (codes "}") ts
 type_no_end (g.type_word {t = u} e s) =
-    no_mark (codes "}") u (ap is_sign_kind (key_only u.kind (and_parts (is_key_kind u.kind) (is_among type_words u.text) e).0))
+    no_mark (codes "}") u (ap is_sign_kind (word_only u.kind (and_parts (is_word_kind u.kind) (is_among type_words u.text) e).0))
 
 declaration_no_end : {s : StmtTree} {ts us : List Token} → Declaration s ts us → Stop (codes "}") ts
 declaration_no_end (g.declare ty n e) = type_no_end ty

@@ -16,7 +16,7 @@ use Rattle.xs_csyn.specs.declared.tree.CType.{CType}
 use Rattle.xs_csyn.specs.declared.tree.PerlForm.TheVariants as form
 use Rattle.xs_csyn.specs.SyntaxTree as t
 use Rattle.xs_csyn.specs.SyntaxTree.{ExprTree, StmtTree, FunctionTree, ItemTree, XsFunction, FileTree, stmts_of}
-use Rattle.xs_csyn.specs.TokenInput.{Input, Reader, is_sign, is_key, is_key_kind, is_name, is_quoted, sees, sees_key, sees_type, sees_name, line, line_at, next, after, expect, expect_key, refuse, text_at, spelling, left, too_deep, a_name}
+use Rattle.xs_csyn.specs.TokenInput.{Input, Reader, is_sign, is_key, is_word_kind, is_name, is_quoted, sees, sees_key, sees_type, sees_name, line, line_at, next, after, expect, expect_key, refuse, text_at, spelling, left, too_deep, a_name}
 use Rattle.xs_base.specs.Readers.{head_is, tail, pure, ◌>>◌, ◌>>=◌}
 use Rattle.xs_csyn.specs.ExpressionReader.{Found, expr, a_type}
 use Rattle.xs_csyn.specs.StatementReader.{max_nesting, an_expr, is_word_form, is_new_xs, begins_new_xs, ends_new_xs, form_of, sees_word_form, sees_new_xs, word_form, new_xs, effect, simple, declaration, part, parts_from, parts, block, condition, opens, stmt}
@@ -53,7 +53,7 @@ an_expr_sound i k a h =
     rw p.2 (expr_sound max_nesting level.Whole i k p.0 p.1)
 
 key_spells : (word : List ℕ) (n : Token) → is_key word n ≡ true → bytes_eq n.text word ≡ true
-key_spells word n h = (and_parts (is_key_kind n.kind) (bytes_eq n.text word) h).1
+key_spells word n h = (and_parts (is_word_kind n.kind) (bytes_eq n.text word) h).1
 
 word_stands : (last : ℕ) (ts : List Token) → is_word_form ts ≡ true → Statement (t.Perl (line_at last ts) (form_of (text_at ts))) ts (tail (tail ts))
 word_stands last [] h = absurd cc

@@ -1,4 +1,4 @@
--- Expressions. Each rule takes, as `inner`, the expressions that stand one level down.
+-- Expressions. Each rule has, as its parameter `inner`, the expressions that stand one level down.
 use Rattle.std.specs.Bool.{then_some}
 use Rattle.std.specs.List.{prefix_len}
 use Rattle.std.specs.Option.{option_map_or}

@@ -1,5 +1,5 @@
--- Statements and declarations. Each rule takes, as `inner`, the statements that stand one level
--- down.
+-- Statements and declarations. Each rule has, as its parameter `inner`, the statements that stand
+-- one level down.
 use Rattle.std.specs.Prelude.{ℕ, zero, suc, Bool, false, ◌&&◌, ◌||◌, if◌then◌else◌, List, [], ◌∷◌, ◌++◌, codes}
 use Rattle.std.specs.Str.{bytes_eq}
 use Rattle.xs_csyn.specs.declared.node.Level.TheVariants as level

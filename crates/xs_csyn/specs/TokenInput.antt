@@ -26,9 +26,9 @@ abbrev pub is_sign_kind : TokKind → Bool
 is_sign_kind kind.Sign = true
 is_sign_kind _ = false
 
-abbrev pub is_key_kind : TokKind → Bool
-is_key_kind kind.Key = true
-is_key_kind _ = false
+abbrev pub is_word_kind : TokKind → Bool
+is_word_kind kind.Word = true
+is_word_kind _ = false
 
 abbrev pub is_quoted_kind : TokKind → Bool
 is_quoted_kind kind.Quoted = true
@@ -40,18 +40,17 @@ is_sign text t = is_sign_kind t.kind && bytes_eq t.text text
 
 -- the token is this word
 abbrev pub is_key : List ℕ → Token → Bool
-is_key text t = is_key_kind t.kind && bytes_eq t.text text
+is_key text t = is_word_kind t.kind && bytes_eq t.text text
 
 abbrev pub is_quoted : Token → Bool
 is_quoted t = is_quoted_kind t.kind
 
 abbrev pub is_type_word : Token → Bool
-is_type_word t = is_key_kind t.kind && is_among type_words t.text
+is_type_word t = is_word_kind t.kind && is_among type_words t.text
 
 -- the token is a word that may be a name
 abbrev pub is_name_by : TokKind → List ℕ → Bool
-is_name_by kind.Name text = true
-is_name_by kind.Key text = not (is_no_name text)
+is_name_by kind.Word text = not (is_no_name text)
 is_name_by _ text = false
 
 abbrev pub is_name : Token → Bool

@@ -10,12 +10,12 @@ ghost use Rattle.xs_csyn.specs.StatementReader as stmts;
 use std::alloc::Global;
 use std::marker::Model;
 use xs_base::fault_codes::NO_READING_HERE;
-use xs_base::{Bytes, Fault, FileOf, Refuse};
+use xs_base::{Bytes, Fault, FileOf, Refuse, TokenList};
 use xs_ctok::{TokKind, Token, is_no_name, is_type_word};
 
 #[derive(Drop)]
 pub struct Cursor<'a> {
-    rest: &'a [Token],
+    rest: TokenList<'a, Token>,
     file: FileOf,
     last: u32,
 }
@@ -26,9 +26,9 @@ impl<'a> Model for Cursor<'a> {
 
     ghost Value = { Input };
 
-    ghost view = { λ c. record { rest = c.rest.now; file = c.file; last = c.last } };
+    ghost view = { λ c. record { rest = c.rest; file = c.file; last = c.last } };
 
-    ghost invariant = { λ c. length c.rest.now < 2 ^ 32 };
+    ghost invariant = { λ c. length c.rest < 2 ^ 32 };
 }
 
 fn is_sign(t: &Token, text: &[u8]) -> bool
@@ -40,7 +40,7 @@ fn is_sign(t: &Token, text: &[u8]) -> bool
 fn is_key(t: &Token, text: &[u8]) -> bool
     ensures { result ≡ spec.is_key text.now t.now }
 {
-    t.kind == TokKind::Key && t.text.as_slice() == text
+    t.kind == TokKind::Word && t.text.as_slice() == text
 }
 
 fn is_quoted(t: &Token) -> bool
@@ -52,15 +52,14 @@ fn is_quoted(t: &Token) -> bool
 fn is_type(t: &Token) -> bool
     ensures { result ≡ spec.is_type_word t.now }
 {
-    t.kind == TokKind::Key && is_type_word(t.text.as_slice())
+    t.kind == TokKind::Word && is_type_word(t.text.as_slice())
 }
 
 fn is_name(t: &Token) -> bool
     ensures { result ≡ spec.is_name t.now }
 {
     match t.kind {
-        TokKind::Name => true,
-        TokKind::Key => !is_no_name(t.text.as_slice()),
+        TokKind::Word => !is_no_name(t.text.as_slice()),
         _ => false,
     }
 }
@@ -98,7 +97,11 @@ impl<'a> Cursor<'a> {
         requires { length rest.now < 2 ^ 32 }
         ensures { result ≡ record { rest = rest.now; file = file; last = last } }
     {
-        Cursor { rest, file, last }
+        Cursor {
+            rest: TokenList::new(rest),
+            file,
+            last,
+        }
     }
 
     /// A cursor of its own at the same token.
@@ -106,7 +109,7 @@ impl<'a> Cursor<'a> {
         ensures { result ≡ self.now }
     {
         Cursor {
-            rest: self.rest,
+            rest: TokenList::new(self.rest.as_slice()),
             file: self.file,
             last: self.last,
         }
@@ -133,9 +136,9 @@ impl<'a> Cursor<'a> {
     pub fn kind(&self) -> Option<TokKind>
         ensures { result ≡ spec.kind_of_token self.now }
     {
-        match self.rest {
-            [] => None,
-            [first, ..] => Some(first.kind),
+        match self.rest.first() {
+            None => None,
+            Some(first) => Some(first.kind),
         }
     }
 
@@ -144,9 +147,9 @@ impl<'a> Cursor<'a> {
     pub fn line(&self) -> u32
         ensures { result ≡ spec.line self.now }
     {
-        match self.rest {
-            [] => self.last,
-            [first, ..] => first.line,
+        match self.rest.first() {
+            None => self.last,
+            Some(first) => first.line,
         }
     }
 
@@ -155,9 +158,9 @@ impl<'a> Cursor<'a> {
     pub fn sees(&self, text: &[u8]) -> bool
         ensures { result ≡ spec.sees text.now self.now }
     {
-        match self.rest {
-            [] => false,
-            [first, ..] => is_sign(first, text),
+        match self.rest.first() {
+            None => false,
+            Some(first) => is_sign(first, text),
         }
     }
 
@@ -166,9 +169,9 @@ impl<'a> Cursor<'a> {
     pub fn sees_key(&self, text: &[u8]) -> bool
         ensures { result ≡ spec.sees_key text.now self.now }
     {
-        match self.rest {
-            [] => false,
-            [first, ..] => is_key(first, text),
+        match self.rest.first() {
+            None => false,
+            Some(first) => is_key(first, text),
         }
     }
 
@@ -177,9 +180,9 @@ impl<'a> Cursor<'a> {
     pub fn sees_type(&self) -> bool
         ensures { result ≡ spec.sees_type self.now }
     {
-        match self.rest {
-            [] => false,
-            [first, ..] => is_type(first),
+        match self.rest.first() {
+            None => false,
+            Some(first) => is_type(first),
         }
     }
 
@@ -188,9 +191,9 @@ impl<'a> Cursor<'a> {
     pub fn sees_name(&self) -> bool
         ensures { result ≡ spec.sees_name self.now }
     {
-        match self.rest {
-            [] => false,
-            [first, ..] => is_name(first),
+        match self.rest.first() {
+            None => false,
+            Some(first) => is_name(first),
         }
     }
 
@@ -199,7 +202,7 @@ impl<'a> Cursor<'a> {
     pub fn sees_word_form(&self) -> bool
         ensures { result ≡ stmts.sees_word_form self.now }
     {
-        match self.rest {
+        match self.rest.as_slice() {
             [a, b, ..] => (is_key(a, b"dXSARGS") || is_key(a, b"XSRETURN_YES")) && is_sign(b, b";"),
             _ => false,
         }
@@ -210,7 +213,7 @@ impl<'a> Cursor<'a> {
     pub fn sees_new_xs(&self) -> bool
         ensures { result ≡ stmts.sees_new_xs self.now }
     {
-        match self.rest {
+        match self.rest.as_slice() {
             [a, b, c, d, e, f, g, ..] => { begins_new_xs(a, b, c, d) && ends_new_xs(e, f, g) }
             _ => false,
         }
@@ -221,8 +224,8 @@ impl<'a> Cursor<'a> {
     pub fn stars(&mut self) -> u32
         ensures { exprs.stars self.old ≡ Ok (result, self.new) }
     {
-        let n = count_stars(self.rest);
-        self.rest = self.rest.split_at(n).1;
+        let n = count_stars(self.rest.as_slice());
+        self.rest.skip_many(n);
         n as u32
     }
 
@@ -240,10 +243,10 @@ impl<'a> Cursor<'a> {
         ensures text { result.now ≡ spec.spelling self.old }
         ensures next { self.new ≡ spec.next self.old }
     {
-        match self.rest {
-            [] => &[],
-            [first, rest @ ..] => {
-                self.rest = rest;
+        match self.rest.first() {
+            None => &[],
+            Some(first) => {
+                self.rest.skip();
                 first.text.as_slice()
             }
         }

@@ -1,5 +1,5 @@
 -- Blanks and whole comments may follow a directive.
-use Rattle.std.proofs.Common.{◌≡◌, ℕ, Bool, true, false, ◌&&◌, ◌||◌, ◌==◌, List, [], ◌∷◌, ◌++◌, refl, ap, ◌∙◌, subst}
+use Rattle.std.proofs.Common.{◌≡◌, ℕ, Bool, true, false, ◌&&◌, ◌==◌, List, [], ◌∷◌, ◌++◌, refl, ap, ◌∙◌, subst}
 use Rattle.std.proofs.lemmas.Bool.{cond-false, cond-true, eqb-true, or_parts}
 use Rattle.std.specs.Prelude.{fold, if◌then◌else◌}
 use Rattle.xs_base.specs.Readers.{head_is}

@@ -1,47 +1,23 @@
 -- The value of digits, and the kinds of words.
-use Rattle.std.proofs.Common.{◌≡◌, ℕ, zero, suc, ◌+◌, ◌*◌, ◌-◌, ◌%◌, ◌^◌, ◌<◌, Bool, true, false, not, ◌&&◌, List, [], ◌∷◌, ◌++◌, get_or, refl, subst, ◌≤◌, sym, ap, ◌∙◌, arith}
+use Rattle.std.proofs.Common.{◌≡◌, ℕ, zero, suc, ◌^◌, ◌<◌, Bool, true, false, not, ◌&&◌, List, [], ◌∷◌, get_or, refl, subst, ◌≤◌, ap, ◌∙◌, arith}
 use Rattle.std.specs.Prelude.{None, Some, ◌==◌, if◌then◌else◌, nat_lt}
 use Rattle.std.specs.Fmt.{decimal}
 use Rattle.std.specs.List.{list_all}
-use Rattle.std.specs.Str.{bytes_eq}
-use Rattle.std.proofs.lemmas.Bool.{and_parts, both_ways, cond-false, cond-true, false_from_ne_true, lt-ltb, or_from, or_right}
+use Rattle.std.proofs.lemmas.Bool.{and_parts, cond-false, cond-true, lt-ltb, or_right}
 use Rattle.std.proofs.lemmas.Bool.Decides.{nat_tests}
-use Rattle.std.proofs.lemmas.Fmt.{decimal_by_steps, decimal_digit, first_decimal}
-use Rattle.std.proofs.lemmas.List.Sums.{fold-append}
-use Rattle.std.proofs.lemmas.Slice.Eq.{bytes_eq-Decides}
-use Rattle.xs_base.proofs.AllPass.{all-append, all-weaker}
+use Rattle.std.proofs.lemmas.Fmt.{decimal_digit, first_decimal}
+use Rattle.xs_base.proofs.AllPass.{all-weaker}
+use Rattle.xs_base.proofs.DecimalText.{decimal_digits}
 use Rattle.xs_ctok.specs.declared.token.TokKind.{TokKind}
 use Rattle.xs_ctok.specs.declared.token.TokKind.TheVariants as kind
 use Rattle.xs_base.specs.ByteRuns.{front_of}
 use Rattle.xs_base.specs.declared.byte_runs.ByteClass.TheVariants as class
 use Rattle.xs_base.specs.Scanning.{has_leading_zero, is_decimal, begins_word, is_ascii_digit, is_word_byte, value_of_digits}
 use Rattle.xs_ctok.specs.Pieces.{IsName}
-use Rattle.xs_ctok.specs.CWords.{decimal_kind, fitting, word_kind, is_key_word}
+use Rattle.xs_ctok.specs.CWords.{decimal_kind, fitting, word_kind}
 use Rattle.xs_base.specs.Readers.{head_is}
-use Rattle.xs_base.specs.Names.{is_among}
 
 -- ---- what a number is written as
-
-record AreDigits (n : ℕ) (ds : List ℕ) : Type 0 where
-  all : list_all is_ascii_digit ds ≡ true
-  value : value_of_digits ds ≡ n
-  some : head_is is_ascii_digit ds ≡ true
-
-digit_is : (n : ℕ) → n < 10 → is_ascii_digit (48 + n) ≡ true
-digit_is n h = grind (arith, nat_tests)
-
-head_is-append : (p : ℕ → Bool) (xs ys : List ℕ) → head_is p xs ≡ true → head_is p (xs ++ ys) ≡ true
-head_is-append p [] ys h = absurd cc
-head_is-append p (x ∷ xs) ys h = h
-
-decimal_digits : (n : ℕ) → n < 2 ^ 64 → AreDigits n (decimal n)
-decimal_digits = decimal_by_steps AreDigits
-    (λ n h. record { all = ap (λ b. b && true) (digit_is n h); value = omega arith; some = digit_is n h })
-    (λ n ds h d. record {
-      all = all-append is_ascii_digit ds ((48 + n % 10) ∷ []) d.all (ap (λ b. b && true) (digit_is (n % 10) (omega arith)));
-      value = fold-append (λ m b. 10 * m + (b - 48)) 0 ds ((48 + n % 10) ∷ []) ∙ omega (arith, d.value);
-      some = head_is-append is_ascii_digit ds ((48 + n % 10) ∷ []) d.some;
-    })
 
 no_zero : (ds : List ℕ) → 48 < get_or ds 0 0 → has_leading_zero ds ≡ false
 no_zero [] h = refl
@@ -70,11 +46,10 @@ word_kind_decimal n h =
     ∙ ap (λ m. if nat_lt m (2 ^ 64) then Some (kind.Numeral m) else None) d.value
     ∙ cond-true (nat_lt n (2 ^ 64)) _ _ (lt-ltb n (2 ^ 64) h)
 
--- A word that begins with no digit and has no meaning of its own is a name.
-pub word_kind_name : (name : List ℕ) → head_is is_ascii_digit name ≡ false → is_key_word name ≡ false → word_kind name ≡ Some kind.Name
+-- A word that begins with no digit is a keyword or an identifier.
+pub word_kind_word : (word : List ℕ) → head_is is_ascii_digit word ≡ false → word_kind word ≡ Some kind.Word
 unfolding word_kind
-word_kind_name name d k =
-    cond-false (head_is is_ascii_digit name) _ _ d ∙ cond-false (is_key_word name) _ _ k
+word_kind_word word d = cond-false (head_is is_ascii_digit word) _ _ d
 
 digit_in_word : (b : ℕ) → is_ascii_digit b ≡ true → is_word_byte b ≡ true
 digit_in_word b h = or_right (begins_word b) (is_ascii_digit b) h

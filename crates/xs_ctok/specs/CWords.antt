@@ -1,8 +1,8 @@
--- Which words of C text have a meaning of their own, by the tables of the program.
+-- The kinds of the words of C text, and which of them are no names, by the tables of the program.
 use Rattle.std.specs.Prelude.{ℕ, ◌^◌, Bool, ◌==◌, ◌||◌, nat_lt, List, map, if◌then◌else◌, Option, Some, None}
 use Rattle.xs_ctok.specs.declared.token.TokKind.{TokKind}
 use Rattle.xs_ctok.specs.declared.token.TokKind.TheVariants as kind
-use Rattle.xs_ctok.specs.declared.words.TheConstants.{TYPE_WORDS, NO_NAMES, INTERFACE_WORDS, RESULT_WORDS}
+use Rattle.xs_ctok.specs.declared.words.TheConstants.{TYPE_WORDS, NO_NAMES}
 use Rattle.xs_base.specs.ByteRuns.{front_of}
 use Rattle.xs_base.specs.declared.byte_runs.ByteClass.TheVariants as class
 use Rattle.xs_base.specs.Names.{is_among}
@@ -20,21 +20,6 @@ no_name_words = map (λ w. w.now) NO_NAMES
 -- a word that is no name
 abbrev pub is_no_name : List ℕ → Bool
 is_no_name word = is_among type_words word || is_among no_name_words word
-
--- words to which the XS interface gives a meaning (perlxs, perlapi)
-abbrev pub interface_words : List (List ℕ)
-interface_words = map (λ w. w.now) INTERFACE_WORDS
-
-unfoldable pub is_interface_word : List ℕ → Bool
-is_interface_word word = is_among interface_words word
-
--- the variables of the glue's results
-abbrev pub result_words : List (List ℕ)
-result_words = map (λ w. w.now) RESULT_WORDS
-
--- a word to which the grammar, the XS interface or the glue gives a meaning
-abbrev pub is_key_word : List ℕ → Bool
-is_key_word word = is_no_name word || (is_among interface_words word || is_among result_words word)
 
 -- a kind, if 64 bits hold the value of the digits
 abbrev pub fitting : TokKind → List ℕ → Option TokKind
@@ -55,6 +40,4 @@ numeral_kind word =
 -- the kind of a word, if the decimal integer in front of it is not too wide
 unfoldable pub word_kind : List ℕ → Option TokKind
 word_kind word =
-    if head_is is_ascii_digit word then numeral_kind word
-    else if is_key_word word then Some kind.Key
-    else Some kind.Name
+    if head_is is_ascii_digit word then numeral_kind word else Some kind.Word

@@ -5,7 +5,7 @@ use Rattle.xs_base.specs.ByteRuns.{front_of}
 use Rattle.xs_base.specs.declared.byte_runs.ByteClass.TheVariants as class
 use Rattle.xs_base.specs.Readers.{head_is}
 use Rattle.xs_base.specs.Scanning.{is_blank, is_ascii_digit, value_of_digits}
-use Rattle.xs_ctok.specs.CWords.{is_key_word, word_kind}
+use Rattle.xs_ctok.specs.CWords.{word_kind}
 use Rattle.xs_ctok.specs.Lexemes.{at_line, is_over, is_passed_line, moved, run}
 use Rattle.xs_ctok.specs.Pieces.{ArePieces, IsName, Piece, run_pieces, spelled}
 use Rattle.xs_ctok.specs.declared.state.Mode.TheVariants as mode
@@ -35,10 +35,9 @@ abbrev pub WideLaw : Type 0
 WideLaw = (word : List ℕ) → head_is is_ascii_digit word ≡ true → head_is (λ b. b == 48) word ≡ false
     → 2 ^ 64 ≤ value_of_digits (front_of class.Digit word) → word_kind word ≡ None
 
--- A word that begins with no digit and has no meaning of its own is a name.
-abbrev pub NameLaw : Type 0
-NameLaw = (word : List ℕ) → head_is is_ascii_digit word ≡ false → is_key_word word ≡ false
-    → word_kind word ≡ Some kind.Name
+-- A word that begins with no digit is a keyword or an identifier.
+abbrev pub WordLaw : Type 0
+WordLaw = (word : List ℕ) → head_is is_ascii_digit word ≡ false → word_kind word ≡ Some kind.Word
 
 -- `*/` stands in the text
 abbrev pub has_close : List ℕ → Bool

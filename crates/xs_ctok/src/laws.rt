@@ -1,6 +1,6 @@
 //! Laws of the definitions, for all texts.
 
-ghost use Rattle.xs_ctok.specs.Laws.{CommentsLaw, DigitsLaw, NameLaw, NumberLaw, PassedLaw, PiecesLaw, WideLaw};
+ghost use Rattle.xs_ctok.specs.Laws.{CommentsLaw, DigitsLaw, NumberLaw, PassedLaw, PiecesLaw, WideLaw, WordLaw};
 
 /// A text in pieces is cut into tokens without a look into its names, its parts of texts in quotes,
 /// its blanks and its lines that are passed over.
@@ -17,13 +17,13 @@ pub fn passed_law()
 {}
 
 /// What a number is written as is one word with that value, a decimal integer of more than 64 bits
-/// is refused, and a word without a meaning of its own is a name.
-#[tactic(auto, using(crate::proofs::WordKinds::word_kind_decimal, crate::proofs::WordKinds::is_name_decimal, crate::proofs::WordKinds::wide_word, crate::proofs::WordKinds::word_kind_name))]
+/// is refused, and a word that begins with no digit is a keyword or an identifier.
+#[tactic(auto, using(crate::proofs::WordKinds::word_kind_decimal, crate::proofs::WordKinds::is_name_decimal, crate::proofs::WordKinds::wide_word, crate::proofs::WordKinds::word_kind_word))]
 pub fn words_law()
     ensures digits { DigitsLaw }
     ensures number { NumberLaw }
     ensures wide { WideLaw }
-    ensures name { NameLaw }
+    ensures word { WordLaw }
 {}
 
 /// Blanks and whole comments may follow PERL_NO_GET_CONTEXT

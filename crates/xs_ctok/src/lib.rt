@@ -14,4 +14,4 @@ pub use directives::is_passed_line;
 pub use laws::{comments_law, passed_law, pieces_law, words_law};
 pub use lexing::tokens;
 pub use token::{TokKind, Token};
-pub use words::{is_interface_word, is_key_word, is_no_name, is_type_word};
+pub use words::{is_no_name, is_type_word};

@@ -8,8 +8,7 @@ use xs_base::{Bytes, FileOf, Memory, Refuse};
 
 fn letter(kind: TokKind) -> &'static str {
     match kind {
-        TokKind::Key => "k",
-        TokKind::Name => "n",
+        TokKind::Word => "w",
         TokKind::Numeral(_) => "#",
         TokKind::OtherNumeral => "?",
         TokKind::Quoted => "q",
@@ -47,16 +46,16 @@ fn texts(rt: HostRuntime) -> Result<(), Fail> {
         ("", ""),
         (
             "if (x1 != 07)\r\n y->z = \"a b\";",
-            "1kif 1s( 1nx1 1s!= 1?07 1s) 2ny 2s-> 2nz 2s= 2qa b 2s; ",
+            "1wif 1s( 1wx1 1s!= 1?07 1s) 2wy 2s-> 2wz 2s= 2qa b 2s; ",
         ),
         (
             "a /* b\n c **/ 18446744073709551615",
-            "1na 2#18446744073709551615 ",
+            "1wa 2#18446744073709551615 ",
         ),
         ("18446744073709551616", "703 at 1"),
         ("a\n18446744073709551616x", "703 at 2"),
         ("18446744073709551615x", "1?18446744073709551615x "),
-        ("a+++b", "1na 1s++ 1s+ 1nb "),
+        ("a+++b", "1wa 1s++ 1s+ 1wb "),
         ("a$", "701 at 1"),
         ("a\n\"b\\\"", "701 at 2"),
         ("a\n\"b", "702 at 2"),
@@ -70,7 +69,7 @@ fn texts(rt: HostRuntime) -> Result<(), Fail> {
         ("#include <x>\r\n#define PERL_NO_GET_CONTEXT\r\n\r\n", ""),
         (
             "#define PERL_NO_GET_CONTEXT /* a **/ /* / */ // b /*\r\na",
-            "2na ",
+            "2wa ",
         ),
         ("#define PERL_NO_GET_CONTEXT/**/\t", ""),
         ("#define PERL_NO_GET_CONTEXT /* a */ b\n", "706 at 1"),
@@ -90,8 +89,8 @@ fn texts(rt: HostRuntime) -> Result<(), Fail> {
         ("/*\n*/ #include <x>\n", "701 at 2"),
         ("/* */\n#include <x>\n", ""),
         ("#include <x> /*\n", ""),
-        ("a\n#include <x>\nb", "1na 3nb "),
-        ("int IV SV ST items", "1kint 1kIV 1kSV 1kST 1kitems "),
+        ("a\n#include <x>\nb", "1wa 3wb "),
+        ("int IV SV ST items", "1wint 1wIV 1wSV 1wST 1witems "),
         ("1 01 1x 0", "1#1 1?01 1?1x 1#0 "),
     ];
     for (text, expected) in rows {

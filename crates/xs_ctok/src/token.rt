@@ -5,10 +5,9 @@ use xs_base::Bytes;
 /// What a token is to the grammar.
 #[derive(Clone, Copy, Debug, PartialEq, Eq)]
 pub enum TokKind {
-    /// A word that the grammar, the XS interface or the glue gives a meaning.
-    Key,
-    /// Any other word.
-    Name,
+    /// A word: a keyword of C or an identifier (C11 6.4.1, 6.4.2). The grammar says which of them
+    /// are names.
+    Word,
     /// An integer in decimal without suffix, by its value.
     Numeral(u64),
     /// Any other word that begins with a digit.

@@ -1,4 +1,4 @@
-//! Which words of C text have a meaning of their own.
+//! The kinds of the words of C text, and which of them are no names.
 
 ghost use Rattle.std.specs.Prelude.{◌≡◌};
 ghost use Rattle.xs_base.specs.Names as names;
@@ -66,38 +66,6 @@ pub const NO_NAMES: [&str; 50] = [
     "dNOOP",
 ];
 
-/// Words to which the XS interface gives a meaning (perlxs, perlapi), so that no variable has such
-/// a name. They are names where no rule of the grammar has them.
-pub const INTERFACE_WORDS: [&str; 24] = [
-    "ST",
-    "dXSARGS",
-    "dXSI32",
-    "dSP",
-    "ENTER",
-    "LEAVE",
-    "SAVETMPS",
-    "FREETMPS",
-    "PUTBACK",
-    "SPAGAIN",
-    "XSRETURN",
-    "XSRETURN_EMPTY",
-    "XSRETURN_UNDEF",
-    "XSRETURN_YES",
-    "XSRETURN_NO",
-    "newXS_deffile",
-    "items",
-    "ix",
-    "cv",
-    "SP",
-    "croak_xs_usage",
-    "SvIV",
-    "sv_newmortal",
-    "sv_setiv",
-];
-
-/// The variables of the glue's results (perlxs).
-pub const RESULT_WORDS: [&str; 2] = ["RETVAL", "RETVALSV"];
-
 /// Whether a word is one of those of types.
 pub fn is_type_word(word: &[u8]) -> bool
     ensures { result ≡ names.is_among spec.type_words word.now }
@@ -110,22 +78,6 @@ pub fn is_no_name(word: &[u8]) -> bool
     ensures { result ≡ spec.is_no_name word.now }
 {
     is_type_word(word) || is_among(&NO_NAMES, word)
-}
-
-/// Whether the XS interface gives a meaning to a word (perlxs, perlapi).
-#[tactic(auto, unfolding(crate::specs::CWords::is_interface_word))]
-pub fn is_interface_word(word: &[u8]) -> bool
-    ensures { result ≡ spec.is_interface_word word.now }
-{
-    is_among(&INTERFACE_WORDS, word)
-}
-
-/// Whether the grammar, the XS interface or the glue gives a meaning to a word.
-#[tactic(auto, unfolding(crate::specs::CWords::is_interface_word))]
-pub fn is_key_word(word: &[u8]) -> bool
-    ensures { result ≡ spec.is_key_word word.now }
-{
-    is_no_name(word) || is_interface_word(word) || is_among(&RESULT_WORDS, word)
 }
 
 /// This kind, if 64 bits hold the value of the digits.
@@ -170,12 +122,6 @@ pub fn word_kind(word: &[u8]) -> Option<TokKind>
 {
     match word {
         [first, ..] if is_ascii_digit(*first) => numeral_kind(word),
-        _ => {
-            if is_key_word(word) {
-                Some(TokKind::Key)
-            } else {
-                Some(TokKind::Name)
-            }
-        }
+        _ => Some(TokKind::Word),
     }
 }

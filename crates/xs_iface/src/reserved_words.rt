@@ -4,13 +4,14 @@ ghost use Rattle.std.specs.Str.{bytes_eq};
 ghost use Rattle.xs_iface.specs.ReservedWords.{is_free, is_reserved};
 
 use xs_base::{is_among, is_identifier};
-use xs_ctok::is_key_word;
-use xs_perlapi::is_api_word;
+use xs_ctok::is_no_name;
+use xs_perlapi::is_interface_word;
 
-/// Words that name no parameter and no function in this form, beside those to which C text gives a
-/// meaning so far and those of Perl's API: flags, types and macros of perl.h and XSUB.h (perlapi,
-/// perlcall), and the words of the preprocessor.
-const RESERVED: [&str; 16] = [
+/// Words that name no parameter and no function in this form, beside those that are no names in C
+/// text and those of the XS interface and Perl's API: the variables of the glue's results (perlxs),
+/// flags, types and macros of perl.h and XSUB.h (perlapi, perlcall), and the words of the
+/// preprocessor.
+const RESERVED: [&str; 18] = [
     "GV_ADD",
     "G_ARRAY",
     "G_DISCARD",
@@ -20,6 +21,8 @@ const RESERVED: [&str; 16] = [
     "NULL",
     "PERL_NO_GET_CONTEXT",
     "PERL_UNUSED_VAR",
+    "RETVAL",
+    "RETVALSV",
     "SVt_PVAV",
     "SVt_PVHV",
     "XSANY",
@@ -41,7 +44,7 @@ pub fn is_same(a: &[u8], b: &[u8]) -> bool
 fn is_reserved(word: &[u8]) -> bool
     ensures { result ≡ is_reserved word.now }
 {
-    is_key_word(word) || is_api_word(word) || is_among(&RESERVED, word)
+    is_no_name(word) || is_interface_word(word) || is_among(&RESERVED, word)
 }
 
 /// Whether a word may name a parameter or a function.

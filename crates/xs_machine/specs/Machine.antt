@@ -96,7 +96,7 @@ module _ {S : Type 0} (P : Prims S) where
   at_leave (Croaks text) d σ = swept_to text (P.cut d σ.store) σ
   at_leave a d σ = halt (outcome_of a) σ
 
-  -- drops pending work up to where the way out is taken
+  -- drops pending work up to where the exit leads
   abbrev pub unwind : Abrupt → List Work → State S → Mach S
   unwind a [] σ = halt (outcome_of a) σ
   unwind a (Leave d ∷ k) σ = at_leave a d σ

@@ -1,4 +1,4 @@
-//! Each row of Perl's API at its operands, and what takes a text of the code.
+//! Each row of Perl's API at its operands, and the rows whose operand is a text of the code.
 ghost use Rattle.std.specs.Prelude.{◌≡◌, Err, [], slice_index_or};
 ghost use Rattle.xs_api.specs.PerlViews.{Does, world_of};
 ghost use Rattle.xs_api.specs.Rows as rows;

@@ -54,7 +54,7 @@ pub enum Task {
     SetVar(u32, ValueType),
     Operate(Op),
     ConvertTop(Kind),
-    /// A row of Perl's API, and how many operands it takes.
+    /// A row of Perl's API, and the number of its operands.
     DoRow(Row, u32),
     Branch(u32, u32),
     ForgetTop,
@@ -124,7 +124,7 @@ impl Machine {
         }
     }
 
-    // Drops pending work up to where the way out is taken.
+    // Drops pending work up to where the exit leads.
     pub(crate) fn unwind(&mut self, abrupt: Abrupt)
         ensures unwinds { mach_of self.new
             ≡ machine.unwind counted_rows abrupt (pending_of self.old) (state_of self.old) }

@@ -8,7 +8,7 @@ pub record IsGrown (store grown : Store) : Type 0 where
   pub more : Store
   pub is : grown ≡ store ++ more
 
--- A call changes no scalar that was made before it, and takes none away.
+-- A call changes no scalar that was made before it, and removes none.
 abbrev pub CallsOnlyAdd : Type 0
 CallsOnlyAdd = (m : Module) (name : List ℕ) (store : Store) (args : List ℕ)
     → IsGrown store (called m name store args).store

@@ -23,7 +23,7 @@ abbrev pub is_counted_row : Option Row → ApiWord → Bool
 is_counted_row None e = true
 is_counted_row (Some row) e = list_all is_operand e.operands && is_result e.result
 
--- The rows that the machine has take numbers and scalars, and give one of these or nothing.
+-- The rows that are built have numbers and scalars as operands, and give one of these or nothing.
 abbrev pub RowsAreCounted : Type 0
 RowsAreCounted = list_all (λ e. is_counted_row e.row e) api_words ≡ true
 

@@ -1,7 +1,8 @@
 -- The table of Perl's API, which is the program's own, and what is looked up in it.
-use Rattle.std.specs.Prelude.{ℕ, Bool, true, false, List, [], ◌∷◌, map, Option, Some, None, if◌then◌else◌, option_map}
+use Rattle.std.specs.Prelude.{ℕ, Bool, true, false, ◌||◌, List, [], ◌∷◌, map, Option, Some, None, if◌then◌else◌, option_map}
 use Rattle.std.specs.Borrow.{Bor}
 use Rattle.std.specs.Str.{bytes_eq}
+use Rattle.xs_base.specs.Names.{is_among}
 use Rattle.xs_perlapi.specs.declared.row.ApiType.{ApiType}
 use Rattle.xs_perlapi.specs.declared.row.Mark.{Mark}
 use Rattle.xs_perlapi.specs.declared.row.ResultState.{ResultState}
@@ -9,7 +10,7 @@ use Rattle.xs_perlapi.specs.declared.row.Row.{Row}
 use Rattle.xs_perlapi.specs.declared.row.Written.{Written}
 use Rattle.xs_perlapi.specs.declared.row.Written.TheVariants as written
 use Rattle.xs_perlapi.specs.declared.table.Signature.{Signature}
-use Rattle.xs_perlapi.specs.declared.table.TheConstants.{ROWS}
+use Rattle.xs_perlapi.specs.declared.table.TheConstants.{INTERFACE_WORDS, ROWS}
 
 -- An entry: a word of the API; its row, where the machine has one; how the word is written; the
 -- types of its operands and of its result; its marks; and the state of its result.
@@ -82,6 +83,14 @@ has_word (e ∷ all) name = if bytes_eq e.word name then true else has_word all 
 -- whether a word is one of the API
 unfoldable pub is_api_word : List ℕ → Bool
 is_api_word name = has_word api_words name
+
+-- the words of the XS interface that are no row of the API (perlxs, perlcall)
+abbrev pub interface_words : List (List ℕ)
+interface_words = map (λ w. w.now) INTERFACE_WORDS
+
+-- whether the XS interface or the API gives a meaning to a word
+unfoldable pub is_interface_word : List ℕ → Bool
+is_interface_word word = is_api_word word || is_among interface_words word
 
 -- the row that is called as a function of this name
 unfoldable pub row_named : List ℕ → Option RowCall

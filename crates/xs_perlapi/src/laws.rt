@@ -1,7 +1,7 @@
 //! The laws of the table. These functions do nothing: their contracts are what is proved.
 ghost use Rattle.xs_perlapi.specs.Laws.{RowsAreCounted, WordsDiffer};
 
-/// The rows that the machine has take numbers and scalars, and give one of these or nothing.
+/// The rows that are built have numbers and scalars as operands, and give one of these or nothing.
 #[tactic(auto, using(crate::proofs::TheTable::rows_are_counted))]
 pub fn rows_are_counted()
     ensures { RowsAreCounted }

@@ -7,4 +7,6 @@ mod table;
 
 pub use laws::{rows_are_counted, words_differ};
 pub use row::{ApiType, Mark, ResultState, Row, Written};
-pub use table::{Entry, ROWS, Signature, is_api_word, row_named};
+pub use table::{
+    Entry, INTERFACE_WORDS, ROWS, Signature, is_api_word, is_interface_word, row_named,
+};

@@ -82,7 +82,7 @@ pub enum Mark {
     Releases,
     /// It moves the places of an array, a hash or the argument stack.
     MovesPlaces,
-    /// It takes the caller's count of an operand, which is numbered from 1.
+    /// It owns an operand in the caller's place from then on; operands are numbered from 1.
     GivesUp(u8),
 }
 

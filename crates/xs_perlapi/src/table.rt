@@ -3,6 +3,7 @@ ghost use Rattle.std.specs.Prelude.{◌≡◌, map, option_map};
 ghost use Rattle.xs_perlapi.specs.Table as table;
 
 use crate::row::{ApiType, Mark, ResultState, Row, Written};
+use xs_base::is_among;
 use xs_values::Kind;
 
 /// An entry: the word; its row, where the machine has one; how the word is written; the types of
@@ -161,6 +162,10 @@ pub const ROWS: [Entry; 95] = [
     ("newXS_deffile", None, Written::Statement, &[ApiType::Literal, ApiType::Word], ApiType::Void, &[], ResultState::None),
 ];
 
+/// The words of the XS interface that are no row of Perl's API: declarations and variables of an
+/// XSUB (perlxs, perlcall).
+pub const INTERFACE_WORDS: [&str; 5] = ["dXSI32", "dSP", "items", "ix", "cv"];
+
 /// A row that is called as a function, with the types of its operands and of its result.
 #[derive(Clone, Copy, Debug)]
 pub struct Signature {
@@ -216,6 +221,14 @@ pub fn is_api_word(name: &[u8]) -> bool
     ensures { result ≡ table.is_api_word name.now }
 {
     has_word(&ROWS, name)
+}
+
+/// Whether the XS interface or Perl's API gives a meaning to a word.
+#[tactic(auto, unfolding(crate::specs::Table::is_interface_word))]
+pub fn is_interface_word(word: &[u8]) -> bool
+    ensures { result ≡ table.is_interface_word word.now }
+{
+    is_api_word(word) || is_among(&INTERFACE_WORDS, word)
 }
 
 /// The row that is called as a function of this name.

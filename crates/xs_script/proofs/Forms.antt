@@ -1,4 +1,4 @@
--- What reading an expression meets and how many turns it takes, form by form.
+-- What reading an expression meets and how many turns it needs, form by form.
 use Rattle.std.proofs.Common.{◌≡◌, ℕ, suc, ◌+◌, List, [], ◌∷◌, Option, Some, None, refl, Ok}
 use Rattle.std.specs.Prelude.{unwrap_or}
 use Rattle.xs_script.specs.declared.line_part.Token.{Token}
@@ -48,7 +48,7 @@ met_deed (f.Die content) i = i
 abbrev pub met_deeds : List Deed → Input → Input
 met_deeds ds i = met_all met_deed ds i
 
--- the turns that are taken by what stands in the brackets of an expression
+-- the turns that are needed by what stands in the brackets of an expression
 abbrev mutual
   pub inner : Form → ℕ
   inner f.Undef = 0
@@ -68,7 +68,7 @@ abbrev mutual
   steps_pairs f.NoPair = 0
   steps_pairs (f.MorePairs k e ps) = inner e + 2 + steps_pairs ps
 
--- the turns that an expression takes
+-- the turns that an expression needs
 abbrev pub steps : Form → ℕ
 steps e = inner e + 1
 

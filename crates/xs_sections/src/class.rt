@@ -15,7 +15,7 @@ pub enum LineClass {
     C,
     /// A comment of the XS part.
     Comment,
-    /// A line of the XS part that the C preprocessor would take.
+    /// A line of the XS part that the C preprocessor would read.
     Directive,
     /// A MODULE line, with its names.
     Module(ModuleNames),

@@ -31,7 +31,7 @@ pub fn is_flush_left(line: &[u8]) -> bool
     starts_with_class(ByteClass::NoBlank, line)
 }
 
-/// A line that the C preprocessor would take: `#` as its first byte and a word of the preprocessor
+/// A line that the C preprocessor would read: `#` as its first byte and a word of the preprocessor
 /// after it.
 pub fn is_directive(line: &[u8]) -> bool
     ensures { result ≡ spec.is_directive line.now }

@@ -23,7 +23,7 @@ use xs_base::{Bytes, Refuse, lines};
 /// | 102 | no MODULE line; on line 1 |
 /// | 103 | a line whose first word is MODULE and that is not `MODULE = NAME`, maybe `PACKAGE =
 /// NAME`, maybe `PREFIX = WORD` |
-/// | 104 | a line of the XS part that the C preprocessor would take |
+/// | 104 | a line of the XS part that the C preprocessor would read |
 /// | 105 | POD without `=cut`; on its first line |
 /// | 106 | a typemap block without its end word; on its TYPEMAP line |
 /// | 107 | the first line of the 4,097th paragraph |
@@ -31,7 +31,7 @@ use xs_base::{Bytes, Refuse, lines};
 /// | 109 | a file keyword with a value that it can not have |
 ///
 /// The rules are those of perlxs. What this project's profile adds: lines that the preprocessor
-/// would take are refused in the XS part, some file keywords are left out, and a file has 4,096
+/// would read are refused in the XS part, some file keywords are left out, and a file has 4,096
 /// paragraphs at most.
 pub fn split(alloc: Global, src: &Bytes) -> Result<Sections, Refuse>
     requires { length src.now < 2 ^ 32 - 1 }

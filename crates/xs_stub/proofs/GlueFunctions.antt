@@ -3,7 +3,7 @@ use Rattle.std.proofs.Common.{◌≡◌, ℕ, ◌+◌, List, [], ◌∷◌, ◌+
 use Rattle.std.proofs.lemmas.List.Elements.{All-from_recursion, All-weaker, recursion_from_All}
 use Rattle.std.specs.Fmt.{decimal}
 use Rattle.std.specs.List.{flat_map}
-use Rattle.std.specs.Prelude.{Ok, true}
+use Rattle.std.specs.Prelude.{Ok, not, true}
 use Rattle.xs_base.specs.declared.source.FileOf.TheVariants as file
 use Rattle.xs_ctok.specs.declared.state.Mode.TheVariants as mode
 use Rattle.xs_ctok.specs.declared.token.TokKind.TheVariants as kind
@@ -15,7 +15,7 @@ use Rattle.xs_ctok.specs.Lexemes.{Lexeme, Sign, Text, Word, at_line, begin}
 use Rattle.xs_ctok.specs.Pieces.{Plain, Name, IsName}
 use Rattle.xs_ctok.specs.Tokens.{word_token}
 use Rattle.xs_csyn.specs.SyntaxTree.{Var, Num, Str, Two, StmtTree, Block, Declare, Effect, If, Perl, ItemTree, XsFunction, stmts_of, StmtTrees, unlined_item, unlined_stmts}
-use Rattle.xs_ctok.specs.CWords.{word_kind}
+use Rattle.xs_ctok.specs.CWords.{is_no_name, word_kind}
 use Rattle.xs_iface.specs.declared.xsub.Module.{Module}
 use Rattle.xs_iface.specs.declared.xsub.Param.{Param}
 use Rattle.xs_iface.specs.declared.xsub.Xsub.{Xsub}
@@ -25,12 +25,12 @@ use Rattle.xs_iface.specs.SumForm.{IsSumModule, IsSumXsub, IsTermOf}
 use Rattle.xs_iface.specs.ReservedWords.{is_free}
 use Rattle.xs_stub.specs.Intended.{boot_tree, call_of, declared_param, inputs_from, int_type, registration, return_one, returned_value, sum_of, sv_pointer, usage_test, work_of, xsub_tree}
 use Rattle.xs_stub.specs.Stub.{joined_names, name_of}
-use Rattle.xs_stub.proofs.PieceCuts.{Cut, called, fresh, joined, key, later, nothing_cut, number, quoted, sign}
+use Rattle.xs_stub.proofs.PieceCuts.{Cut, fresh, joined, later, nothing_cut, number, quoted, sign, word}
 use Rattle.xs_stub.proofs.GluePieces.{boot_pieces, head_pieces, after_separator, names_pieces, registration_pieces, work_pieces, xsub_pieces}
-use Rattle.xs_stub.proofs.GlueWords.{IsWordOf, boot_is_name, decimal_word, free_name, glue_is_word, term_word}
+use Rattle.xs_stub.proofs.GlueWords.{IsSpelled, IsWordOf, boot_is_name, decimal_word, free_name, glue_is_word, term_spelled}
 use Rattle.xs_stub.proofs.Standing.{Body, Functions, FunctionsAt, Items, Stand, StandAt, each_tree, no_stmt, regrouped, stated, then_trees}
 use Rattle.xs_stub.proofs.StatementsStand.{EndAt, alone, declarations_stand, end_stands, inputs_stand, registrations_stand, results_stand}
-use Rattle.xs_stub.proofs.SumsStand.{IsSpelled, sum_stands}
+use Rattle.xs_stub.proofs.SumsStand.{sum_stands}
 
 -- ---- the names of parameters, in a text in quotes
 
@@ -51,7 +51,7 @@ more_names_cut k text [] free =
 more_names_cut k text (p ∷ ps) free =
     subst (λ t. Cut (flat_map (after_separator (codes ", ") name_of) (p ∷ ps)) (at_line k (mode.Text text)) (at_line k (mode.Text t)) [])
     (longer text p.name (flat_map (λ param. codes ", " ++ name_of param) ps))
-    (joined (name_cut k text p (free_name p.name free.0).is_name) (more_names_cut k (((text ++ 44 ∷ []) ++ 32 ∷ []) ++ p.name) ps free.1))
+    (joined (name_cut k text p (free_name p.name free.0).word.is_name) (more_names_cut k (((text ++ 44 ∷ []) ++ 32 ∷ []) ++ p.name) ps free.1))
 
 first_name_cut : (k : ℕ) (p : Param) → IsName p.name → Cut (Name p.name ∷ []) (at_line k (mode.Text [])) (at_line k (mode.Text p.name)) []
 first_name_cut k p is = record { fine = (is, tt); lexemes = []; runs = refl; tokens_are = refl }
@@ -59,17 +59,17 @@ first_name_cut k p is = record { fine = (is, tt); lexemes = []; runs = refl; tok
 names_cut : (k : ℕ) (ps : List Param) → All (λ p. is_free p.name ≡ true) ps
     → Cut (names_pieces ps) (at_line k (mode.Text [])) (at_line k (mode.Text (joined_names ps))) []
 names_cut k [] free = nothing_cut (at_line k (mode.Text []))
-names_cut k (p ∷ ps) free = joined (first_name_cut k p (free_name p.name free.0).is_name) (more_names_cut k p.name ps free.1)
+names_cut k (p ∷ ps) free = joined (first_name_cut k p (free_name p.name free.0).word.is_name) (more_names_cut k p.name ps free.1)
 
 -- ---- the head of a glue function
 
 -- a function up to its brace, and what stands after it
 abbrev named_tokens : ℕ → ℕ → List ℕ → List Token → List Token
-named_tokens a b name rest = key a (codes "XS") ∷ sign a (codes "(") ∷ called a name ∷ sign a (codes ")") ∷ sign b (codes "{") ∷ rest
+named_tokens a b name rest = word a (codes "XS") ∷ sign a (codes "(") ∷ word a name ∷ sign a (codes ")") ∷ sign b (codes "{") ∷ rest
 
 -- a function up to its first statement
 abbrev opening_tokens : ℕ → ℕ → ℕ → List ℕ → List Token → List Token
-opening_tokens a b c name rest = named_tokens a b name (key c (codes "dXSARGS") ∷ sign c (codes ";") ∷ rest)
+opening_tokens a b c name rest = named_tokens a b name (word c (codes "dXSARGS") ∷ sign c (codes ";") ∷ rest)
 
 abbrev opening_lexemes : ℕ → ℕ → ℕ → List ℕ → List Lexeme → List Lexeme
 opening_lexemes a b c name rest =
@@ -78,14 +78,14 @@ opening_lexemes a b c name rest =
 -- up to the opening quote, and from the closing one on
 abbrev before_tokens : ℕ → ℕ → ℕ → ℕ → ℕ → List ℕ → ℕ → List Token → List Token
 before_tokens a b c d e glue count rest =
-    opening_tokens a b c glue (key d (codes "if") ∷ sign d (codes "(") ∷ key d (codes "items") ∷ sign d (codes "!=") ∷ number d count (decimal count)
+    opening_tokens a b c glue (word d (codes "if") ∷ sign d (codes "(") ∷ word d (codes "items") ∷ sign d (codes "!=") ∷ number d count (decimal count)
     ∷ sign d (codes ")")
-    ∷ key e (codes "croak_xs_usage") ∷ sign e (codes "(") ∷ key e (codes "cv") ∷ sign e (codes ",") ∷ rest)
+    ∷ word e (codes "croak_xs_usage") ∷ sign e (codes "(") ∷ word e (codes "cv") ∷ sign e (codes ",") ∷ rest)
 
 abbrev after_tokens : ℕ → List ℕ → List Token → List Token
 after_tokens e text rest = quoted e text ∷ sign e (codes ")") ∷ sign e (codes ";") ∷ sign (e + 1) (codes "{") ∷ rest
 
-before_cut : (n : ℕ) (glue : List ℕ) (count : ℕ) → IsWordOf kind.Name glue → IsWordOf (kind.Numeral count) (decimal count)
+before_cut : (n : ℕ) (glue : List ℕ) (count : ℕ) → IsWordOf kind.Word glue → IsWordOf (kind.Numeral count) (decimal count)
     → Cut (Plain (codes "\nXS(") ∷ Name glue ∷ Plain (codes ")\n{\n    dXSARGS;\n    if (items != ") ∷ Name (decimal count)
     ∷ Plain (codes ")\n        croak_xs_usage(cv, \"") ∷ [])
     (fresh n) (at_line (later n 5) (mode.Text [])) (before_tokens (n + 1) (later n 2) (later n 3) (later n 4) (later n 5) glue count [])
@@ -100,11 +100,11 @@ before_cut n glue count w d =
           ∷ Word e (codes "croak_xs_usage") ∷ Sign e (codes "(") ∷ Word e (codes "cv") ∷ Sign e (codes ",") ∷ []);
       runs = refl;
       tokens_are = ap₂ (λ s t.
-          Ok (key a (codes "XS")) ∷ Ok (sign a (codes "(")) ∷ word_token file.Text a glue s ∷ Ok (sign a (codes ")")) ∷ Ok (sign b (codes "{"))
-          ∷ Ok (key c (codes "dXSARGS")) ∷ Ok (sign c (codes ";"))
-          ∷ Ok (key f (codes "if")) ∷ Ok (sign f (codes "(")) ∷ Ok (key f (codes "items")) ∷ Ok (sign f (codes "!=")) ∷ word_token file.Text f (decimal count) t
+          Ok (word a (codes "XS")) ∷ Ok (sign a (codes "(")) ∷ word_token file.Text a glue s ∷ Ok (sign a (codes ")")) ∷ Ok (sign b (codes "{"))
+          ∷ Ok (word c (codes "dXSARGS")) ∷ Ok (sign c (codes ";"))
+          ∷ Ok (word f (codes "if")) ∷ Ok (sign f (codes "(")) ∷ Ok (word f (codes "items")) ∷ Ok (sign f (codes "!=")) ∷ word_token file.Text f (decimal count) t
           ∷ Ok (sign f (codes ")"))
-          ∷ Ok (key e (codes "croak_xs_usage")) ∷ Ok (sign e (codes "(")) ∷ Ok (key e (codes "cv")) ∷ Ok (sign e (codes ",")) ∷ []) w.kind d.kind;
+          ∷ Ok (word e (codes "croak_xs_usage")) ∷ Ok (sign e (codes "(")) ∷ Ok (word e (codes "cv")) ∷ Ok (sign e (codes ",")) ∷ []) w.kind d.kind;
     }
 
 after_cut : (e : ℕ) (text : List ℕ) → Cut (Plain (codes "\");\n    {\n") ∷ []) (at_line e (mode.Text text)) (fresh (later e 2)) (after_tokens e text [])
@@ -123,7 +123,7 @@ head_tokens n x rest =
 head_cut : (n : ℕ) (x : Xsub) → IsSumXsub x
     → Cut (head_pieces x) (fresh n) (fresh (later n 7)) (head_tokens n x [])
 head_cut n x f =
-    joined (before_cut n x.glue (length x.params) (glue_is_word x f) (decimal_word (length x.params) (omega (arith, f.few_params))))
+    joined (before_cut n x.glue (length x.params) (glue_is_word x f).word (decimal_word (length x.params) (omega (arith, f.few_params))))
     (joined (names_cut (later n 5) x.params f.free_params) (after_cut (later n 5) (joined_names x.params)))
 
 -- ---- one function
@@ -135,12 +135,12 @@ same_function : (all read : StmtTrees) (rest trees : List ItemTree) (n m : ℕ) 
 same_function all read rest trees n m name e f = cc
 
 -- a function before others
-function_stands : (n b m : ℕ) (name : List ℕ) (all : List StmtTree) (vs ts : List Token) (rest : List ItemTree) → g.begins_body vs ≡ true
-    → Body 1 all vs ts → Items rest ts
+function_stands : (n b m : ℕ) (name : List ℕ) (all : List StmtTree) (vs ts : List Token) (rest : List ItemTree) → not (is_no_name name) ≡ true
+    → g.begins_body vs ≡ true → Body 1 all vs ts → Items rest ts
     → Items (XsFunction (record { line = m; name = name; body = stmts_of all }) ∷ rest) (named_tokens n b name vs)
-function_stands n b m name all vs ts rest begins body more = record {
+function_stands n b m name all vs ts rest named begins body more = record {
   trees = XsFunction (record { line = n; name = name; body = body.body }) ∷ more.trees;
-  stands = g.function refl refl refl refl refl begins body.parts more.stands;
+  stands = g.function refl refl named refl refl begins body.parts more.stands;
   within = (omega (arith, body.flat), body.low, more.within);
   same = same_function (stmts_of all) body.body rest more.trees n m name body.same more.same;
 }
@@ -148,9 +148,9 @@ function_stands n b m name all vs ts rest begins body more = record {
 -- the body of a glue function, by what its block holds
 body_stands : (c d e : ℕ) (x : Xsub) (vs ts : List Token) (brace : Token) → g.Is (codes "}") brace → Body 0 (work_of x) vs (brace ∷ ts)
     → Body 1 (Perl x.line form.DxsArgs ∷ usage_test x.line x.params ∷ Block x.line (stmts_of (work_of x)) ∷ [])
-    (key c (codes "dXSARGS") ∷ sign c (codes ";") ∷ key d (codes "if") ∷ sign d (codes "(") ∷ key d (codes "items") ∷ sign d (codes "!=")
+    (word c (codes "dXSARGS") ∷ sign c (codes ";") ∷ word d (codes "if") ∷ sign d (codes "(") ∷ word d (codes "items") ∷ sign d (codes "!=")
     ∷ number d (length x.params) (decimal (length x.params)) ∷ sign d (codes ")")
-    ∷ key e (codes "croak_xs_usage") ∷ sign e (codes "(") ∷ key e (codes "cv") ∷ sign e (codes ",") ∷ after_tokens e (joined_names x.params) vs) ts
+    ∷ word e (codes "croak_xs_usage") ∷ sign e (codes "(") ∷ word e (codes "cv") ∷ sign e (codes ",") ∷ after_tokens e (joined_names x.params) vs) ts
 body_stands c d e x vs ts brace is h =
     stated (Perl c form.DxsArgs) (Perl x.line form.DxsArgs) (g.args refl refl) refl (omega arith) (omega arith)
     (stated (If d (Two d op.NotEqual (Var d (codes "items")) (Num d (length x.params)))
@@ -168,7 +168,7 @@ body_stands c d e x vs ts brace is h =
 all_spelled : (x : Xsub) → IsSumXsub x → All (IsSpelled x.params) x.sum
 all_spelled x f =
     recursion_from_All (IsSpelled x.params) x.sum
-    (All-weaker (IsTermOf (length x.params)) (IsSpelled x.params) (term_word x.params f.free_params) x.sum
+    (All-weaker (IsTermOf (length x.params)) (IsSpelled x.params) (term_spelled x.params f.free_params) x.sum
     (All-from_recursion (IsTermOf (length x.params)) x.sum f.terms))
 
 -- what its block holds, before the returned value
@@ -193,7 +193,7 @@ xsub_with n x meant f grouped work end = record {
   tokens = head_tokens n x (work.tokens ++ end.tokens);
   cut = joined (head_cut n x f) (joined work.cut end.cut);
   onto = λ k rest ts more.
-      function_stands (n + 1) (later n 2) x.line x.glue _ _ ts rest refl
+      function_stands (n + 1) (later n 2) x.line x.glue _ _ ts rest (glue_is_word x f).named refl
       (body_stands (later n 3) (later n 4) (later n 5) x ((work.tokens ++ end.tokens) ++ ts) ts end.brace end.closes
       (regrouped grouped (sym (append_assoc work.tokens end.tokens ts)) (work.onto (0, end.brace ∷ ts) (returned_value x.output_line ++ return_one x.line)
       (end.tokens ++ ts) (end.onto ts)))) more;
@@ -225,7 +225,7 @@ boot_cut n name is = record {
 }
 
 boot_end_cut : (n : ℕ)
-    → Cut (Plain (codes "    XSRETURN_YES;\n}\n") ∷ []) (fresh n) (fresh (later n 2)) (key n (codes "XSRETURN_YES") ∷ sign n (codes ";")
+    → Cut (Plain (codes "    XSRETURN_YES;\n}\n") ∷ []) (fresh n) (fresh (later n 2)) (word n (codes "XSRETURN_YES") ∷ sign n (codes ";")
     ∷ sign (n + 1) (codes "}") ∷ [])
 unfolding begin word_kind
 boot_end_cut n = record {
@@ -242,7 +242,7 @@ boot_with n m f work = record {
   tokens = opening_tokens (n + 1) (later n 2) (later n 3) (codes "boot_" ++ underscored m.boot) (work.tokens ++ end);
   cut = joined (boot_cut n (underscored m.boot) (boot_is_name m.boot f.boot)) (joined work.cut (boot_end_cut work.to));
   onto = λ k rest ts more.
-      function_stands (n + 1) (later n 2) m.boot_line (codes "boot_" ++ underscored m.boot) _ _ ts rest refl
+      function_stands (n + 1) (later n 2) m.boot_line (codes "boot_" ++ underscored m.boot) _ _ ts rest refl refl
       (stated (Perl (later n 3) form.DxsArgs) (Perl m.boot_line form.DxsArgs) (g.args refl refl) refl (omega arith) (omega arith)
       (regrouped refl (sym (append_assoc work.tokens end ts)) (work.onto (1, ts) (Perl m.boot_line form.XsReturnYes ∷ []) (end ++ ts)
       (stated (Perl work.to form.XsReturnYes) (Perl m.boot_line form.XsReturnYes) (g.return_yes refl refl) refl (omega arith) (omega arith)
@@ -250,7 +250,7 @@ boot_with n m f work = record {
 }
   where
     end : List Token
-    end = key work.to (codes "XSRETURN_YES") ∷ sign work.to (codes ";") ∷ sign (work.to + 1) (codes "}") ∷ []
+    end = word work.to (codes "XSRETURN_YES") ∷ sign work.to (codes ";") ∷ sign (work.to + 1) (codes "}") ∷ []
 
 pub boot_stands : (m : Module) → IsSumModule m → Functions (boot_pieces m) (boot_tree m ∷ [])
 boot_stands m f = record { at = λ n. boot_with n m f ((registrations_stand m.boot_line m.xsubs f.xsubs).at (later n 4)) }

@@ -23,14 +23,11 @@ later n (suc lines) = later n lines + 1
 
 -- ---- tokens
 
-abbrev pub key : ℕ → List ℕ → Token
-key n text = token kind.Key n text
+abbrev pub word : ℕ → List ℕ → Token
+word n text = token kind.Word n text
 
 abbrev pub sign : ℕ → List ℕ → Token
 sign n text = token kind.Sign n text
-
-abbrev pub called : ℕ → List ℕ → Token
-called n text = token kind.Name n text
 
 abbrev pub number : ℕ → ℕ → List ℕ → Token
 number n value text = token (kind.Numeral value) n text

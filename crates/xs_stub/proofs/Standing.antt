@@ -2,14 +2,18 @@
 use Rattle.std.proofs.Common.{◌≡◌, ℕ, ◌≤◌, List, [], ◌∷◌, ◌++◌, codes, map, append_assoc, refl, sym, ap₂, subst, subst₂, arith}
 use Rattle.std.proofs.Math.Nat.{max-le}
 use Rattle.std.specs.List.{flat_map}
+use Rattle.std.specs.Prelude.{◌||◌, false}
+use Rattle.std.proofs.lemmas.Bool.{and_left, and_right}
 use Rattle.xs_ctok.specs.declared.token.Token.{Token}
 use Rattle.xs_csyn.specs.GlueGrammar as g
-use Rattle.xs_csyn.specs.GlueGrammar.{Declaration, File, Is, Parts, Statement}
+use Rattle.xs_csyn.specs.GlueGrammar.{Declaration, File, Is, Parts, Statement, Whole, line_of}
+use Rattle.xs_csyn.specs.StatementReader.{begins_new_xs, ends_new_xs, is_new_xs}
+use Rattle.xs_csyn.specs.TokenInput.{is_key, is_quoted, is_sign}
 use Rattle.xs_csyn.specs.Heights.{AreWithin, depth, depths, tallest, tallest_of}
 use Rattle.xs_ctok.specs.Pieces.{Piece}
-use Rattle.xs_csyn.specs.SyntaxTree.{ItemTree, MoreStmts, NoStmts, StmtTree, StmtTrees, stmts_of, unlined_item, unlined_stmt, unlined_stmts}
+use Rattle.xs_csyn.specs.SyntaxTree.{Effect, ExprTree, ItemTree, MoreStmts, NoStmts, StmtTree, StmtTrees, stmts_of, unlined_item, unlined_stmt, unlined_stmts}
 use Rattle.std.specs.List.{AllByRecursion as All}
-use Rattle.xs_stub.proofs.PieceCuts.{Cut, fresh, joined, nothing_cut}
+use Rattle.xs_stub.proofs.PieceCuts.{Cut, fresh, joined, nothing_cut, sign}
 
 -- ---- statements
 
@@ -54,6 +58,24 @@ declared s meant stands same flat low more = with_first s meant (declaration_fir
 
 pub regrouped : {deep : ℕ} {all meant : List StmtTree} {ts vs us : List Token} → all ≡ meant → ts ≡ vs → Body deep all ts us → Body deep meant vs us
 regrouped {deep = deep} {us = us} e f b = subst₂ (λ all ts. Body deep all ts us) e f b
+
+-- whatever its first word is, an assignment registers nothing
+no_new_xs : (n : ℕ) (t : Token) (ts : List Token) → is_new_xs (t ∷ sign n (codes "=") ∷ ts) ≡ false
+no_new_xs n t [] = refl
+no_new_xs n t (a ∷ []) = refl
+no_new_xs n t (a ∷ b ∷ []) = refl
+no_new_xs n t (a ∷ b ∷ c ∷ []) = refl
+no_new_xs n t (a ∷ b ∷ c ∷ d ∷ []) = refl
+no_new_xs n t (a ∷ b ∷ c ∷ d ∷ e ∷ ts) =
+    let begins : begins_new_xs t (sign n (codes "=")) a b ≡ false =
+    and_left _ (is_sign (codes ",") b) (and_left _ (is_quoted a) (and_right (is_key (codes "newXS_deffile") t) false refl)) in
+    and_left (begins_new_xs t (sign n (codes "=")) a b) (ends_new_xs c d e) begins
+
+-- and is a statement
+pub assigned : {a : ExprTree} {u : Token} {ts us : List Token} (n : ℕ) (t : Token) → Whole a (t ∷ sign n (codes "=") ∷ ts) (u ∷ us) → Is (codes ";") u
+    → Statement (Effect (line_of a) a) (t ∷ sign n (codes "=") ∷ ts) us
+assigned {ts = ts} n t whole ends =
+    g.effect (and_right (is_key (codes "dXSARGS") t || is_key (codes "XSRETURN_YES") t) false refl) (no_new_xs n t ts) whole ends
 
 -- ---- pieces that are trees
 

@@ -20,30 +20,30 @@ use Rattle.xs_iface.specs.SumForm.{IsSumXsub}
 use Rattle.xs_iface.specs.ReservedWords.{is_free}
 use Rattle.xs_stub.specs.Intended.{assign, call_of, declared_param, inputs_from, int_argument, int_type, iv_type, registration, return_one, returned_value, sv_pointer}
 use Rattle.xs_stub.specs.Stub.{end_text}
-use Rattle.xs_stub.proofs.PieceCuts.{Cut, called, fresh, key, later, number, quoted, sign}
+use Rattle.xs_stub.proofs.PieceCuts.{Cut, fresh, later, number, quoted, sign, word}
 use Rattle.xs_stub.proofs.GluePieces.{declaration_pieces, input_pieces, inputs_pieces, registration_pieces}
 use Rattle.xs_stub.proofs.GlueWords.{IsWordOf, decimal_word, free_name, full_is_bare, glue_is_word}
-use Rattle.xs_stub.proofs.Standing.{Body, Stand, declared, each_tree, no_stmt, no_trees, one_declared, one_stated, stated, then_trees}
+use Rattle.xs_stub.proofs.Standing.{Body, Stand, assigned, declared, each_tree, no_stmt, no_trees, one_declared, one_stated, stated, then_trees}
 
 pub alone : {a : ExprTree} {ts us : List Token} → Unary a ts us → Whole a ts us
 alone u = g.is_comparison (g.is_sum (g.is_unary u))
 
 -- ---- variables
 
-declaration_cut : (n : ℕ) (p : Param) → IsWordOf kind.Name p.name
-    → Cut (declaration_pieces p) (fresh n) (fresh (n + 1)) (key n (codes "int") ∷ called n p.name ∷ sign n (codes ";") ∷ [])
+declaration_cut : (n : ℕ) (p : Param) → IsWordOf kind.Word p.name
+    → Cut (declaration_pieces p) (fresh n) (fresh (n + 1)) (word n (codes "int") ∷ word n p.name ∷ sign n (codes ";") ∷ [])
 unfolding begin word_kind
 declaration_cut n p w = record {
   fine = (w.is_name, tt);
   lexemes = Word n (codes "int") ∷ Word n p.name ∷ Sign n (codes ";") ∷ [];
   runs = refl;
-  tokens_are = ap (λ s. Ok (key n (codes "int")) ∷ word_token file.Text n p.name s ∷ Ok (sign n (codes ";")) ∷ []) w.kind;
+  tokens_are = ap (λ s. Ok (word n (codes "int")) ∷ word_token file.Text n p.name s ∷ Ok (sign n (codes ";")) ∷ []) w.kind;
 }
 
 declaration_stands : (line : ℕ) (p : Param) → is_free p.name ≡ true → Stand (declaration_pieces p) (declared_param line p ∷ [])
-declaration_stands line p free = record {
-  at = λ n. one_declared (Declare n int_type p.name) (declared_param line p) (declaration_cut n p (free_name p.name free))
-      (λ ts. g.declare (g.type_word refl g.no_star) refl refl) refl refl (omega arith);
+declaration_stands line p free = let w = free_name p.name free in record {
+  at = λ n. one_declared (Declare n int_type p.name) (declared_param line p) (declaration_cut n p w.word)
+      (λ ts. g.declare (g.type_word refl g.no_star) w.named refl) refl refl (omega arith);
 }
 
 -- a variable for each parameter
@@ -52,7 +52,7 @@ pub declarations_stand : (line : ℕ) (params : List Param) → All (λ p. is_fr
 declarations_stand line params free = each_tree (λ p. is_free p.name ≡ true) declaration_pieces (declared_param line) (declaration_stands line) params free
 
 results_cut : (n : ℕ) → Cut (Plain (codes "        int RETVAL;\n        SV *RETVALSV;\n") ∷ []) (fresh n) (fresh (later n 2))
-    (key n (codes "int") ∷ key n (codes "RETVAL") ∷ sign n (codes ";") ∷ key (n + 1) (codes "SV") ∷ sign (n + 1) (codes "*") ∷ key (n + 1) (codes "RETVALSV")
+    (word n (codes "int") ∷ word n (codes "RETVAL") ∷ sign n (codes ";") ∷ word (n + 1) (codes "SV") ∷ sign (n + 1) (codes "*") ∷ word (n + 1) (codes "RETVALSV")
     ∷ sign (n + 1) (codes ";") ∷ [])
 unfolding begin word_kind
 results_cut n = record {
@@ -71,8 +71,8 @@ pub results_stand : (line : ℕ)
 results_stand line = record {
   at = λ n. record {
     to = later n 2;
-    tokens = key n (codes "int") ∷ key n (codes "RETVAL") ∷ sign n (codes ";") ∷ key (n + 1) (codes "SV") ∷ sign (n + 1) (codes "*")
-        ∷ key (n + 1) (codes "RETVALSV") ∷ sign (n + 1) (codes ";") ∷ [];
+    tokens = word n (codes "int") ∷ word n (codes "RETVAL") ∷ sign n (codes ";") ∷ word (n + 1) (codes "SV") ∷ sign (n + 1) (codes "*")
+        ∷ word (n + 1) (codes "RETVALSV") ∷ sign (n + 1) (codes ";") ∷ [];
     cut = results_cut n;
     onto = λ k rest ts h.
         declared (Declare n int_type (codes "RETVAL")) (Declare line int_type (codes "RETVAL")) (g.declare (g.type_word refl g.no_star) refl refl) refl
@@ -86,11 +86,11 @@ results_stand line = record {
 
 abbrev input_tokens : ℕ → List ℕ → ℕ → List Token
 input_tokens n name index =
-    called n name ∷ sign n (codes "=") ∷ sign n (codes "(") ∷ key n (codes "int") ∷ sign n (codes ")") ∷ key n (codes "SvIV") ∷ sign n (codes "(")
-    ∷ key n (codes "ST") ∷ sign n (codes "(")
+    word n name ∷ sign n (codes "=") ∷ sign n (codes "(") ∷ word n (codes "int") ∷ sign n (codes ")") ∷ word n (codes "SvIV") ∷ sign n (codes "(")
+    ∷ word n (codes "ST") ∷ sign n (codes "(")
     ∷ number n index (decimal index) ∷ sign n (codes ")") ∷ sign n (codes ")") ∷ sign n (codes ";") ∷ []
 
-input_cut : (n index : ℕ) (p : Param) → IsWordOf kind.Name p.name → IsWordOf (kind.Numeral index) (decimal index)
+input_cut : (n index : ℕ) (p : Param) → IsWordOf kind.Word p.name → IsWordOf (kind.Numeral index) (decimal index)
     → Cut (input_pieces index p) (fresh n) (fresh (n + 1)) (input_tokens n p.name index)
 unfolding begin word_kind
 input_cut n index p w d = record {
@@ -101,19 +101,19 @@ input_cut n index p w d = record {
       ∷ Word n (decimal index) ∷ Sign n (codes ")") ∷ Sign n (codes ")") ∷ Sign n (codes ";") ∷ [];
   runs = refl;
   tokens_are = ap₂ (λ s t.
-      word_token file.Text n p.name s ∷ Ok (sign n (codes "=")) ∷ Ok (sign n (codes "(")) ∷ Ok (key n (codes "int")) ∷ Ok (sign n (codes ")"))
-      ∷ Ok (key n (codes "SvIV")) ∷ Ok (sign n (codes "("))
-      ∷ Ok (key n (codes "ST")) ∷ Ok (sign n (codes "(")) ∷ word_token file.Text n (decimal index) t ∷ Ok (sign n (codes ")")) ∷ Ok (sign n (codes ")"))
+      word_token file.Text n p.name s ∷ Ok (sign n (codes "=")) ∷ Ok (sign n (codes "(")) ∷ Ok (word n (codes "int")) ∷ Ok (sign n (codes ")"))
+      ∷ Ok (word n (codes "SvIV")) ∷ Ok (sign n (codes "("))
+      ∷ Ok (word n (codes "ST")) ∷ Ok (sign n (codes "(")) ∷ word_token file.Text n (decimal index) t ∷ Ok (sign n (codes ")")) ∷ Ok (sign n (codes ")"))
       ∷ Ok (sign n (codes ";")) ∷ []) w.kind d.kind;
 }
 
 input_stands : (index : ℕ) (p : Param) → is_free p.name ≡ true → index ≤ 64
     → Stand (input_pieces index p) (assign p.line p.name (int_argument p.line index) ∷ [])
-input_stands index p free few = record {
+input_stands index p free few = let w = free_name p.name free in record {
   at = λ n. one_stated (assign n p.name (int_argument n index)) (assign p.line p.name (int_argument p.line index))
-      (input_cut n index p (free_name p.name free) (decimal_word index (omega (arith, few))))
-      (λ ts. g.effect refl refl
-      (g.set (g.variable refl) refl
+      (input_cut n index p w.word (decimal_word index (omega (arith, few))))
+      (λ ts. assigned n (word n p.name)
+      (g.set (g.variable w.named) refl
       (alone (g.cast refl (g.type_word refl g.no_star) refl
       (g.call refl refl (g.some (g.last (alone (g.call refl refl (g.some (g.last (alone (g.int refl)) refl)))) refl)))))) refl)
       refl refl (omega arith);
@@ -130,16 +130,16 @@ inputs_stand index (p ∷ ps) free few = then_trees (input_stands index p free.0
 -- the returned value, on a line and the next
 abbrev returned_tokens : ℕ → ℕ → List Token → List Token
 returned_tokens a b rest =
-    key a (codes "RETVALSV") ∷ sign a (codes "=") ∷ key a (codes "sv_newmortal") ∷ sign a (codes "(") ∷ sign a (codes ")") ∷ sign a (codes ";")
-    ∷ key b (codes "sv_setiv") ∷ sign b (codes "(") ∷ key b (codes "RETVALSV") ∷ sign b (codes ",") ∷ sign b (codes "(") ∷ key b (codes "IV")
+    word a (codes "RETVALSV") ∷ sign a (codes "=") ∷ word a (codes "sv_newmortal") ∷ sign a (codes "(") ∷ sign a (codes ")") ∷ sign a (codes ";")
+    ∷ word b (codes "sv_setiv") ∷ sign b (codes "(") ∷ word b (codes "RETVALSV") ∷ sign b (codes ",") ∷ sign b (codes "(") ∷ word b (codes "IV")
     ∷ sign b (codes ")")
-    ∷ key b (codes "RETVAL") ∷ sign b (codes ")") ∷ sign b (codes ";") ∷ rest
+    ∷ word b (codes "RETVAL") ∷ sign b (codes ")") ∷ sign b (codes ";") ∷ rest
 
 -- the return, and both braces
 abbrev return_tokens : ℕ → ℕ → ℕ → ℕ → List Token → List Token
 return_tokens c d e f rest =
-    key c (codes "ST") ∷ sign c (codes "(") ∷ number c 0 (codes "0") ∷ sign c (codes ")") ∷ sign c (codes "=") ∷ key c (codes "RETVALSV") ∷ sign c (codes ";")
-    ∷ key d (codes "XSRETURN") ∷ sign d (codes "(") ∷ number d 1 (codes "1") ∷ sign d (codes ")") ∷ sign d (codes ";") ∷ sign e (codes "}") ∷ sign f (codes "}")
+    word c (codes "ST") ∷ sign c (codes "(") ∷ number c 0 (codes "0") ∷ sign c (codes ")") ∷ sign c (codes "=") ∷ word c (codes "RETVALSV") ∷ sign c (codes ";")
+    ∷ word d (codes "XSRETURN") ∷ sign d (codes "(") ∷ number d 1 (codes "1") ∷ sign d (codes ")") ∷ sign d (codes ";") ∷ sign e (codes "}") ∷ sign f (codes "}")
     ∷ rest
 
 abbrev end_tokens : ℕ → List Token → List Token
@@ -206,9 +206,9 @@ end_stands m r n = record {
 
 -- ---- registrations
 
-registration_cut : (n : ℕ) (x : Xsub) → IsBare x.full → IsWordOf kind.Name x.glue
+registration_cut : (n : ℕ) (x : Xsub) → IsBare x.full → IsWordOf kind.Word x.glue
     → Cut (registration_pieces x) (fresh n) (fresh (n + 1))
-    (key n (codes "newXS_deffile") ∷ sign n (codes "(") ∷ quoted n x.full ∷ sign n (codes ",") ∷ called n x.glue ∷ sign n (codes ")") ∷ sign n (codes ";") ∷ [])
+    (word n (codes "newXS_deffile") ∷ sign n (codes "(") ∷ quoted n x.full ∷ sign n (codes ",") ∷ word n x.glue ∷ sign n (codes ")") ∷ sign n (codes ";") ∷ [])
 unfolding begin word_kind
 registration_cut n x bare w = record {
   fine = (bare, (w.is_name, tt));
@@ -216,14 +216,14 @@ registration_cut n x bare w = record {
       ∷ [];
   runs = refl;
   tokens_are = ap (λ s.
-      Ok (key n (codes "newXS_deffile")) ∷ Ok (sign n (codes "(")) ∷ Ok (quoted n x.full) ∷ Ok (sign n (codes ",")) ∷ word_token file.Text n x.glue s
+      Ok (word n (codes "newXS_deffile")) ∷ Ok (sign n (codes "(")) ∷ Ok (quoted n x.full) ∷ Ok (sign n (codes ",")) ∷ word_token file.Text n x.glue s
       ∷ Ok (sign n (codes ")")) ∷ Ok (sign n (codes ";")) ∷ []) w.kind;
 }
 
 registration_stands : (line : ℕ) (x : Xsub) → IsSumXsub x → Stand (registration_pieces x) (registration line x ∷ [])
-registration_stands line x f = record {
-  at = λ n. one_stated (registration n x) (registration line x) (registration_cut n x (full_is_bare x f) (glue_is_word x f))
-      (λ ts. g.new_xs refl refl refl refl refl refl refl) refl refl (omega arith);
+registration_stands line x f = let w = glue_is_word x f in record {
+  at = λ n. one_stated (registration n x) (registration line x) (registration_cut n x (full_is_bare x f) w.word)
+      (λ ts. g.new_xs refl refl refl refl w.named refl refl) refl refl (omega arith);
 }
 
 -- Each glue function is registered.

@@ -1,47 +1,21 @@
 -- The text of a number is read back.
-use Rattle.std.proofs.Common.{◌≡◌, ℕ, ℤ, pos, negsuc, zero, suc, ◌+◌, ◌*◌, ◌-◌, ◌%◌, ◌^◌, ◌<◌, ◌≤ℤ◌, neg_ℤ, Bool, true, false, not, ◌&&◌, List, [], ◌∷◌, ◌++◌, refl, sym, ap, ◌∙◌, arith}
+use Rattle.std.proofs.Common.{◌≡◌, ℕ, ℤ, pos, negsuc, suc, ◌≤ℤ◌, neg_ℤ, true, false, List, [], ◌∷◌, refl, ap, ◌∙◌, arith}
 use Rattle.std.proofs.lemmas.Bool.Decides.{nat_tests}
 use Rattle.std.proofs.lemmas.Bool.{and_parts, cond-false}
-use Rattle.std.proofs.lemmas.Fmt.{decimal_by_steps}
 use Rattle.std.proofs.lemmas.Int.{ints}
-use Rattle.std.proofs.lemmas.List.Sums.{fold-append}
 use Rattle.std.proofs.Math.Nat.{mod-eq_of_lt}
 use Rattle.std.specs.Fmt.{decimal, signed_decimal}
 use Rattle.std.specs.List.{list_all}
 use Rattle.std.specs.Prelude.{◌==◌, int_lt}
-use Rattle.xs_base.proofs.AllPass.{all-append}
-use Rattle.xs_base.specs.Readers.{head_is}
-use Rattle.xs_base.specs.ByteRuns.{after_run, front_of, is_space}
+use Rattle.xs_base.proofs.DecimalText.{AreDigits, decimal_digits}
+use Rattle.xs_base.specs.ByteRuns.{front_of, is_space}
 use Rattle.xs_base.specs.Scanning.{is_ascii_digit, value_of_digits}
-use Rattle.xs_base.specs.declared.byte_runs.ByteClass.TheVariants.{Digit, Space}
+use Rattle.xs_base.specs.declared.byte_runs.ByteClass.TheVariants.{Digit}
 use Rattle.xs_values.specs.declared.kind.Kind.TheVariants.{I64, U64}
-use Rattle.xs_values.specs.declared.plain.Plain.TheVariants.{Text}
 use Rattle.xs_values.specs.Kinds.{high_of, low_of}
 use Rattle.xs_values.specs.Laws.{IvsAreReadBack, TextsAreReadBack, UvsAreReadBack}
-use Rattle.xs_values.specs.Numbers.{IsInRange, bits_in}
+use Rattle.xs_values.specs.Numbers.{bits_in}
 use Rattle.xs_values.specs.Plains.{between, into_iv, signed_number, value_in_front, whole_number}
-
--- digits that write a number, at least one
-record AreDigits (n : ℕ) (ds : List ℕ) : Type 0 where
-  all : list_all is_ascii_digit ds ≡ true
-  value : value_of_digits ds ≡ n
-  some : head_is is_ascii_digit ds ≡ true
-
-digit_is : (n : ℕ) → n < 10 → is_ascii_digit (48 + n) ≡ true
-digit_is n h = grind (arith, nat_tests)
-
-head_is-append : (p : ℕ → Bool) (xs ys : List ℕ) → head_is p xs ≡ true → head_is p (xs ++ ys) ≡ true
-head_is-append p [] ys h = absurd cc
-head_is-append p (x ∷ xs) ys h = h
-
-decimal_digits : (n : ℕ) → n < 2 ^ 64 → AreDigits n (decimal n)
-decimal_digits = decimal_by_steps AreDigits
-    (λ n h. record { all = ap (λ b. b && true) (digit_is n h); value = omega arith; some = digit_is n h })
-    (λ n ds h d. record {
-      all = all-append is_ascii_digit ds ((48 + n % 10) ∷ []) d.all (ap (λ b. b && true) (digit_is (n % 10) (omega arith)));
-      value = fold-append (λ m b. 10 * m + (b - 48)) 0 ds ((48 + n % 10) ∷ []) ∙ omega (arith, d.value);
-      some = head_is-append is_ascii_digit ds ((48 + n % 10) ∷ []) d.some;
-    })
 
 front_of_digits : (ds : List ℕ) → list_all is_ascii_digit ds ≡ true → front_of Digit ds ≡ ds
 front_of_digits [] h = refl

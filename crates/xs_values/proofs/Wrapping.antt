@@ -1,5 +1,5 @@
 -- What conversion gives: the number of the range that differs by a multiple of 2^bits.
-use Rattle.std.proofs.Common.{◌≡◌, ◌≢◌, ℕ, ℤ, pos, negsuc, zero, suc, ◌+◌, ◌*◌, ◌-◌, ◌/◌, ◌%◌, ◌<◌, ◌≤◌, ◌+ℤ◌, ◌-ℤ◌, ◌≤ℤ◌, ◌^◌, if◌then◌else◌, Bool, true, false, refl, sym, ap, subst, arith}
+use Rattle.std.proofs.Common.{◌≡◌, ◌≢◌, ℕ, ℤ, pos, negsuc, zero, suc, ◌+◌, ◌*◌, ◌-◌, ◌/◌, ◌%◌, ◌<◌, ◌≤◌, ◌+ℤ◌, ◌-ℤ◌, ◌≤ℤ◌, ◌^◌, if◌then◌else◌, true, refl, sym, ap, subst, arith}
 use Rattle.std.proofs.Math.Nat.{add-mul, mod-add-div', mod-lt, suc-mul, zero-mul}
 use Rattle.std.proofs.lemmas.Bool.{cond-true, cond_both}
 use Rattle.std.proofs.lemmas.Bool.Decides.{nat_tests}
@@ -9,10 +9,9 @@ use Rattle.std.specs.Int.RustNames.{int_le}
 use Rattle.xs_values.specs.declared.kind.Kind.{Kind}
 use Rattle.xs_values.specs.declared.kind.Kind.TheVariants.{I8, U8, I16, U16, I32, U32, I64, U64}
 use Rattle.xs_values.specs.declared.kind.Kind.TheVariants as kind
-use Rattle.xs_values.specs.declared.plain.Plain.{Plain}
 use Rattle.xs_values.specs.Kinds.{bits_of, high_of, low_of}
 use Rattle.xs_values.specs.Laws.{ConversionIsTheNumber, DifferByMultiple, IsTheNumber, UvsAreConversions}
-use Rattle.xs_values.specs.Numbers.{IsInRange, bits_in, modular, wrapped_value}
+use Rattle.xs_values.specs.Numbers.{IsInRange, bits_in, wrapped_value}
 use Rattle.xs_values.specs.Plains.{number_of}
 
 -- the residue modulo m, or the one below 0 where that is above h

@@ -23,7 +23,7 @@ fn desk(alloc: Global, xs: &[u8], script: &[u8]) -> Result<MemDesk, Fail> {
     Ok(desk)
 }
 
-// A sink that takes seven bytes a write, and so many in all.
+// A sink that accepts seven bytes a write, and so many in all.
 fn sink(alloc: Global, room: u32) -> Result<MemSink, Fail> {
     Ok(MemSink::new(alloc, 7, room).map_err(|_| "memory")?)
 }
