@@ -8,8 +8,6 @@ mod file;
 mod laws;
 mod node;
 mod stmts;
-#[cfg(test)]
-mod tests;
 mod tree;
 
 pub use file::read_file;

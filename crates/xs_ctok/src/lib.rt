@@ -5,8 +5,6 @@ mod directives;
 mod laws;
 mod lexing;
 mod state;
-#[cfg(test)]
-mod tests;
 mod token;
 mod words;
 

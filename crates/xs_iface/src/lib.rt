@@ -11,8 +11,6 @@ mod resolving;
 mod scan;
 mod spelling;
 mod terms;
-#[cfg(test)]
-mod tests;
 mod xsub;
 
 pub use laws::{module_is_of_built_forms, module_is_of_sums, unbuilt_form_has_its_line};

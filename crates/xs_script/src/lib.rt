@@ -13,8 +13,6 @@ mod scope;
 mod script;
 mod script_number;
 mod stop;
-#[cfg(test)]
-mod tests;
 mod text;
 mod value;
 

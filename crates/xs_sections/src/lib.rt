@@ -9,8 +9,6 @@ mod module_line;
 mod section_reading;
 mod sections;
 mod splitting;
-#[cfg(test)]
-mod tests;
 mod words;
 
 pub use sections::{ModuleNames, Part, PartBody, Sections};

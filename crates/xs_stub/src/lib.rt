@@ -5,8 +5,6 @@ mod glue_exprs;
 mod glue_items;
 mod glue_stmts;
 mod laws;
-#[cfg(test)]
-mod tests;
 mod writer;
 
 pub use glue_items::glue_tree;

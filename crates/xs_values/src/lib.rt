@@ -27,8 +27,3 @@ pub use plain::{LargeUv, Plain, to_iv, to_text, to_uv, truth};
 pub use trap::{Name, Trap};
 pub use types::kind_of;
 pub use unary_operator::{UnOp, unary, unary_kind};
-
-#[cfg(test)]
-mod table;
-#[cfg(test)]
-mod tests;

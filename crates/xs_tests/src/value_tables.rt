@@ -1,15 +1,15 @@
 //! Results at the edges of every kind. Operators and conversions were computed by gcc with its
 //! checks for undefined behavior, on x86-64; the kinds of literals by gcc's `_Generic`; the
 //! numbers of texts by Python.
-use crate::Base::{self, Decimal, Hexadecimal, Octal};
-use crate::Kind::{self, Bool, I8, I16, I32, I64, U8, U16, U32, U64};
-use crate::Length::{self, Int, Long, LongLong};
-use crate::Op::{
+use xs_values::Base::{self, Decimal, Hexadecimal, Octal};
+use xs_values::Kind::{self, Bool, I8, I16, I32, I64, U8, U16, U32, U64};
+use xs_values::Length::{self, Int, Long, LongLong};
+use xs_values::Op::{
     self, Add, BitAnd, BitOr, BitXor, Divide, Equal, Greater, GreaterEqual, Less, LessEqual,
     Multiply, NotEqual, Remainder, ShiftLeft, ShiftRight, Subtract,
 };
-use crate::Trap::{self, Overflow, Shift, Zero};
-use crate::UnOp::{self, Complement, Minus, Not, Plus};
+use xs_values::Trap::{self, Overflow, Shift, Zero};
+use xs_values::UnOp::{self, Complement, Minus, Not, Plus};
 
 const I64_MIN: i128 = -9223372036854775808;
 

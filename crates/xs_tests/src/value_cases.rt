@@ -1,7 +1,10 @@
-use crate::{table, *};
+//! Operators, conversions, literals and texts, against the rows of `value_tables`.
+
+use crate::value_tables as table;
 use std::alloc::Global;
 use std::test::Fail;
 use xs_base::Bytes;
+use xs_values::*;
 
 #[test]
 fn operators_at_edges(rt: HostRuntime) {

@@ -1,10 +1,10 @@
 //! The intended tree of a small module.
-use crate::glue_tree;
 use std::alloc::Global;
 use std::test::Fail;
 use xs_base::{Bytes, Items, Memory, Refuse};
 use xs_csyn::FileItem;
 use xs_iface::{Module, Param, Term, Xsub};
+use xs_stub::glue_tree;
 
 // An XSUB of one parameter, with its interface on this line.
 fn xsub(alloc: Global, line: u32, name: &str) -> Result<Xsub, Memory> {

@@ -1,10 +1,10 @@
 //! Scripts against what they are to read as.
 ghost use Rattle.std.specs.Prelude.{◌-◌, ◌<◌, ◌^◌, length};
 
-use crate::{Action, Command, E, Number, quoted, read_script, value_text};
 use std::alloc::Global;
 use std::test::Fail;
 use xs_base::{Bytes, Memory, Refuse};
+use xs_script::{Action, Command, E, Number, quoted, read_script, value_text};
 use xs_values::Plain;
 
 fn append_expr(alloc: Global, out: &mut Bytes, e: &E) -> Result<(), Memory> {

@@ -1,10 +1,10 @@
 //! Texts and their tokens.
 
-use crate::{TokKind, is_no_name, is_passed_line, is_type_word, tokens};
 use std::alloc::Global;
 use std::process::Abort;
 use std::test::Fail;
 use xs_base::{Bytes, FileOf, Memory, Refuse};
+use xs_ctok::{TokKind, is_no_name, is_passed_line, is_type_word, tokens};
 
 fn letter(kind: TokKind) -> &'static str {
     match kind {

@@ -1,8 +1,8 @@
 //! Cases that were worked out by hand and by another program, and the limit of paragraphs.
-use crate::{Part, PartBody, Sections, split};
 use std::alloc::Global;
 use std::test::Fail;
 use xs_base::{Bytes, Items, Line, Memory, Refuse};
+use xs_sections::{Part, PartBody, Sections, split};
 
 fn add_lines(alloc: Global, out: &mut Bytes, lines: &Items<Line>) -> Result<(), Memory> {
     for line in lines.as_slice() {

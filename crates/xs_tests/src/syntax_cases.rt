@@ -1,10 +1,10 @@
 //! Texts and their faults.
 
-use crate::read_file;
 use std::alloc::Global;
 use std::process::Abort;
 use std::test::Fail;
 use xs_base::{Bytes, FileOf, Memory, Refuse};
+use xs_csyn::read_file;
 
 /// What the writer of glue gives for a function of two parameters.
 const GLUE: &str =

@@ -1,9 +1,9 @@
 //! Modules of small files, worked out by hand from the rules of perlxs. In the files a line
 //! `!INTERFACE|SUM` stands for the six lines of an XSUB and an empty line.
-use crate::{Module, Param, Term, Xsub, read_module};
 use std::alloc::Global;
 use std::test::Fail;
 use xs_base::{Bytes, Memory, Refuse};
+use xs_iface::{Module, Param, Term, Xsub, read_module};
 use xs_sections::{Sections, split};
 
 fn add_term(alloc: Global, out: &mut Bytes, term: Term) -> Result<(), Memory> {
