@@ -13,6 +13,8 @@ mod section_cases;
 #[cfg(test)]
 mod syntax_cases;
 #[cfg(test)]
+mod table_rows;
+#[cfg(test)]
 mod token_cases;
 #[cfg(test)]
 mod value_cases;

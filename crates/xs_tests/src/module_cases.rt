@@ -1,5 +1,6 @@
 //! Modules of small files, worked out by hand from the rules of perlxs. In the files a line
 //! `!INTERFACE|SUM` stands for the six lines of an XSUB and an empty line.
+use crate::table_rows::{halves, text_of};
 use std::alloc::Global;
 use std::test::Fail;
 use xs_base::{Bytes, Memory, Refuse};
@@ -112,92 +113,52 @@ fn file_of(alloc: Global, short: &[u8]) -> Result<Bytes, Memory> {
     Ok(src)
 }
 
-// Short files, and the module of each, or the line, code and word of its fault after `F`.
-const CASES: [(&str, &str); 30] = [
-    ("MODULE = M", "M 1\n"),
-    (
-        "MODULE = M PACKAGE = M\n!add(int a, int b)|a + b + 7",
-        "M 1\nX 3 5 7 'M::add' add XS_M_add a@3 b@3 = $0 $1 7\n",
-    ),
-    (
-        "MODULE = M::N PACKAGE = A::B PREFIX = my_\n!my_f(int a)|a\n!g(int a)|2147483647",
-        "M::N 1\nX 3 5 7 'A::B::f' my_f XS_A__B_f a@3 = $0\nX 10 12 14 'A::B::g' g XS_A__B_g a@10 = 2147483647\n",
-    ),
-    (
-        "MODULE = M PREFIX = f\n!f(int a)|0\n!gf(int a)|a",
-        "M 1\nX 3 5 7 '' f XS__ a@3 = 0\nX 10 12 14 'gf' gf XS__gf a@10 = $0\n",
-    ),
-    (
-        "#include <x.h>\n\nMODULE = M PACKAGE = A PREFIX = f\n# a comment\n!fg(int a)|a\n=pod\n\n=cut\nMODULE = N PACKAGE = B\n!fg(int a)|a",
-        "N 15\nC 1 #include <x.h>\nC 2 \nX 6 8 10 'A::g' fg XS_A_g a@6 = $0\nX 17 19 21 'B::fg' fg XS_B_fg a@17 = $0\n",
-    ),
-    ("MODULE = M\n!f(int a, int b, int a, int b)|a", "F 3 303 a"),
-    ("MODULE = M\n!f(int a, int b, int b, int a)|a", "F 3 303 b"),
-    (
-        "MODULE = M PACKAGE = M\n!f(int a)|a\n!f(int b)|b",
-        "F 10 407 M::f",
-    ),
-    (
-        "MODULE = M PACKAGE = A::B\n!f(int a)|a\nMODULE = M PACKAGE = A\n!_B_f(int a)|a",
-        "F 11 407 A::_B_f",
-    ),
-    (
-        "MODULE = M PREFIX = p\n!pf(int a)|a\n!g(int a)|a\n!f(int a)|a\n!g(int a)|a",
-        "F 17 407 f",
-    ),
-    ("MODULE = M\n!f(int a)|a\n!f(int b, int b)|b", "F 10 303 b"),
-    ("MODULE = M\n!f(int a, int a)|a\nvoid", "F 9 999 "),
-    (
-        "MODULE = M\nTYPEMAP: <<E\nx T_IV\nE\n!f(int a)|a",
-        "F 2 999 ",
-    ),
-    ("MODULE = M\nTYPEMAP: <<E\nE", "F 2 999 "),
-    (
-        "MODULE = M\nREQUIRE: 1\n\n# c\nTYPEMAP: <<E\n# c\n=pod\n=cut\nx T_IV\nE",
-        "F 5 999 ",
-    ),
-    ("MODULE = M\nREQUIRE: 1\n\n# c\nvoid\nf()", "F 5 999 "),
-    (
-        "#include <x.h>\nint x;\nMODULE = M\n!f(int a, int a)|a\nvoid",
-        "F 2 999 ",
-    ),
-    (
-        "#define PERL_NO_GET_CONTEXT\nMODULE = M\n!f(int a)|a",
-        "M 2\nC 1 #define PERL_NO_GET_CONTEXT\nX 4 6 8 'f' f XS__f a@4 = $0\n",
-    ),
-    ("MODULE = M\n\nBOOT:\n    ;", "F 3 999 "),
-    ("MODULE = M\n!f()|1", "F 2 999 "),
-    ("MODULE = M\n!f(int a)|", "F 2 999 "),
-    ("MODULE = M\n!f(int a)|b", "F 2 999 "),
-    ("MODULE = M\n!f(int a)|a+1", "F 2 999 "),
-    ("MODULE = M\n!f(int a,int b)|a", "F 2 999 "),
-    ("MODULE = M\n!f(int a)|2147483648", "F 2 999 "),
-    ("MODULE = M\n!f(int a)|01", "F 2 999 "),
-    ("MODULE = M\n!f(int items)|1", "F 2 999 "),
-    (
-        "MODULE = M\nint\nf(int a)\nCODE:\nRETVAL = a;\nOUTPUT:\nRETVAL",
-        "M 1\nX 3 5 7 'f' f XS__f a@3 = $0\n",
-    ),
-    (
-        "MODULE = M\nint\nf(int a)\n  CODE :\n    RETVAL = a;\n  OUTPUT:\n    RETVAL",
-        "F 2 999 ",
-    ),
-    (
-        "MODULE = M\nint\nf(int a)\n\tCODE:\n RETVAL = a;\n  OUTPUT:\n    RETVAL\n \n\n",
-        "M 1\nX 3 5 7 'f' f XS__f a@3 = $0\n",
-    ),
-];
+// Short files, and after `~` the module of each, or the line, code and word of its fault after `F`,
+// with `/` for each line end.
+const TABLE: &[u8] = b"\
+    MODULE = M~M 1/\n\
+    MODULE = M PACKAGE = M/!add(int a, int b)|a + b + 7~M 1/X 3 5 7 'M::add' add XS_M_add a@3 b@3 = $0 $1 7/\n\
+    MODULE = M::N PACKAGE = A::B PREFIX = my_/!my_f(int a)|a/!g(int a)|2147483647~M::N 1/X 3 5 7 'A::B::f' my_f XS_A__B_f a@3 = $0/X 10 12 14 'A::B::g' g XS_A__B_g a@10 = 2147483647/\n\
+    MODULE = M PREFIX = f/!f(int a)|0/!gf(int a)|a~M 1/X 3 5 7 '' f XS__ a@3 = 0/X 10 12 14 'gf' gf XS__gf a@10 = $0/\n\
+    #include <x.h>//MODULE = M PACKAGE = A PREFIX = f/# a comment/!fg(int a)|a/=pod//=cut/MODULE = N PACKAGE = B/!fg(int a)|a~N 15/C 1 #include <x.h>/C 2 /X 6 8 10 'A::g' fg XS_A_g a@6 = $0/X 17 19 21 'B::fg' fg XS_B_fg a@17 = $0/\n\
+    MODULE = M/!f(int a, int b, int a, int b)|a~F 3 303 a\n\
+    MODULE = M/!f(int a, int b, int b, int a)|a~F 3 303 b\n\
+    MODULE = M PACKAGE = M/!f(int a)|a/!f(int b)|b~F 10 407 M::f\n\
+    MODULE = M PACKAGE = A::B/!f(int a)|a/MODULE = M PACKAGE = A/!_B_f(int a)|a~F 11 407 A::_B_f\n\
+    MODULE = M PREFIX = p/!pf(int a)|a/!g(int a)|a/!f(int a)|a/!g(int a)|a~F 17 407 f\n\
+    MODULE = M/!f(int a)|a/!f(int b, int b)|b~F 10 303 b\n\
+    MODULE = M/!f(int a, int a)|a/void~F 9 999 \n\
+    MODULE = M/TYPEMAP: <<E/x T_IV/E/!f(int a)|a~F 2 999 \n\
+    MODULE = M/TYPEMAP: <<E/E~F 2 999 \n\
+    MODULE = M/REQUIRE: 1//# c/TYPEMAP: <<E/# c/=pod/=cut/x T_IV/E~F 5 999 \n\
+    MODULE = M/REQUIRE: 1//# c/void/f()~F 5 999 \n\
+    #include <x.h>/int x;/MODULE = M/!f(int a, int a)|a/void~F 2 999 \n\
+    #define PERL_NO_GET_CONTEXT/MODULE = M/!f(int a)|a~M 2/C 1 #define PERL_NO_GET_CONTEXT/X 4 6 8 'f' f XS__f a@4 = $0/\n\
+    MODULE = M//BOOT:/    ;~F 3 999 \n\
+    MODULE = M/!f()|1~F 2 999 \n\
+    MODULE = M/!f(int a)|~F 2 999 \n\
+    MODULE = M/!f(int a)|b~F 2 999 \n\
+    MODULE = M/!f(int a)|a+1~F 2 999 \n\
+    MODULE = M/!f(int a,int b)|a~F 2 999 \n\
+    MODULE = M/!f(int a)|2147483648~F 2 999 \n\
+    MODULE = M/!f(int a)|01~F 2 999 \n\
+    MODULE = M/!f(int items)|1~F 2 999 \n\
+    MODULE = M/int/f(int a)/CODE:/RETVAL = a;/OUTPUT:/RETVAL~M 1/X 3 5 7 'f' f XS__f a@3 = $0/\n\
+    MODULE = M/int/f(int a)/\tCODE:/ RETVAL = a;/  OUTPUT:/    RETVAL/ //~M 1/X 3 5 7 'f' f XS__f a@3 = $0/\n\
+    MODULE = M/int/f(int a)/  CODE :/    RETVAL = a;/  OUTPUT:/    RETVAL~F 2 999 ";
 
 #[test]
 fn table(rt: HostRuntime) -> Result<(), Fail> {
     let alloc = rt.alloc();
-    for (short, expected) in CASES {
-        let src = file_of(alloc, short.as_bytes())?;
-        assert!(rt;
-            shown(alloc, &src)?.as_slice() == expected.as_bytes(),
-            "{short}"
-        );
+    let mut rows = 0usize;
+    for row in TABLE.split(|b| *b == b'\n') {
+        let (short, expected) = halves(row, b'~')?;
+        let src = file_of(alloc, text_of(alloc, short)?.as_slice())?;
+        let found = shown(alloc, &src)?;
+        assert_eq!(rt; found.as_slice(), text_of(alloc, expected)?.as_slice());
+        rows = rows.wrapping_add(1);
     }
+    assert_eq!(rt; rows, 30);
     Ok(())
 }
 

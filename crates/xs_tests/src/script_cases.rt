@@ -1,6 +1,7 @@
 //! Scripts against what they are to read as.
 ghost use Rattle.std.specs.Prelude.{◌-◌, ◌<◌, ◌^◌, length};
 
+use crate::table_rows::{halves, text_of};
 use std::alloc::Global;
 use std::test::Fail;
 use xs_base::{Bytes, Memory, Refuse};
@@ -43,14 +44,18 @@ fn append_expr(alloc: Global, out: &mut Bytes, e: &E) -> Result<(), Memory> {
     }
 }
 
-fn append_call(alloc: Global, out: &mut Bytes, sub: &Bytes, args: &Vec<E>) -> Result<(), Memory> {
-    out.append(sub.as_slice())?;
+fn append_args(alloc: Global, out: &mut Bytes, args: &Vec<E>) -> Result<(), Memory> {
     out.append(b"(")?;
     for arg in args {
         append_expr(alloc, out, arg)?;
         out.append(b",")?;
     }
     out.append(b")")
+}
+
+fn append_call(alloc: Global, out: &mut Bytes, sub: &Bytes, args: &Vec<E>) -> Result<(), Memory> {
+    out.append(sub.as_slice())?;
+    append_args(alloc, out, args)
 }
 
 fn append_action(alloc: Global, out: &mut Bytes, action: &Action) -> Result<(), Memory> {
@@ -89,40 +94,70 @@ fn append_head(
     out.append(name.as_slice())
 }
 
+// The name that a command declares, and the value that it gets.
+fn append_my(alloc: Global, out: &mut Bytes, line: u32, name: &Bytes, e: &E) -> Result<(), Memory> {
+    append_head(alloc, out, line, b" my ", name)?;
+    out.append(b" ")?;
+    append_expr(alloc, out, e)
+}
+
+// The same for what a call gives.
+fn append_my_call(
+    alloc: Global,
+    out: &mut Bytes,
+    line: u32,
+    name: &Bytes,
+    sub: &Bytes,
+    args: &Vec<E>,
+) -> Result<(), Memory> {
+    append_head(alloc, out, line, b" my ", name)?;
+    out.append(b" call ")?;
+    append_call(alloc, out, sub, args)
+}
+
+fn append_isa(
+    alloc: Global,
+    out: &mut Bytes,
+    line: u32,
+    class: &Bytes,
+    parent: &Bytes,
+) -> Result<(), Memory> {
+    append_head(alloc, out, line, b" isa ", class)?;
+    out.append(b" ")?;
+    out.append(parent.as_slice())
+}
+
+fn append_sub(
+    alloc: Global,
+    out: &mut Bytes,
+    line: u32,
+    sub: &Bytes,
+    actions: &Vec<Action>,
+) -> Result<(), Memory> {
+    append_head(alloc, out, line, b" sub ", sub)?;
+    out.append(b" ")?;
+    for action in actions {
+        append_action(alloc, out, action)?;
+        out.append(b";")?;
+    }
+    Ok(())
+}
+
 fn append_command(alloc: Global, out: &mut Bytes, command: &Command) -> Result<(), Memory> {
     match command {
-        Command::My(line, name, e) => {
-            append_head(alloc, out, *line, b" my ", name)?;
-            out.append(b" ")?;
-            append_expr(alloc, out, e)
-        }
+        Command::My(line, name, e) => append_my(alloc, out, *line, name, e),
         Command::MyCall(line, name, sub, args) => {
-            append_head(alloc, out, *line, b" my ", name)?;
-            out.append(b" call ")?;
-            append_call(alloc, out, sub, args)
+            append_my_call(alloc, out, *line, name, sub, args)
         }
         Command::Ro(line, name) => append_head(alloc, out, *line, b" ro ", name),
         Command::Show(line, name) => append_head(alloc, out, *line, b" show ", name),
         Command::Drop(line, name) => append_head(alloc, out, *line, b" drop ", name),
-        Command::Isa(line, class, parent) => {
-            append_head(alloc, out, *line, b" isa ", class)?;
-            out.append(b" ")?;
-            out.append(parent.as_slice())
-        }
+        Command::Isa(line, class, parent) => append_isa(alloc, out, *line, class, parent),
         Command::Call(line, sub, args) => {
-            out.append_number(alloc, u64::from(*line))?;
-            out.append(b" call ")?;
-            append_call(alloc, out, sub, args)
+            append_head(alloc, out, *line, b" call ", sub)?;
+            append_args(alloc, out, args)
         }
-        Command::Sub(line, sub, actions) => {
-            append_head(alloc, out, *line, b" sub ", sub)?;
-            out.append(b" ")?;
-            for action in actions {
-                append_action(alloc, out, action)?;
-                out.append(b";")?;
-            }
-            Ok(())
-        }
+        Command::Sub(line, sub, actions) => append_sub(alloc, out, *line, sub, actions),
     }
 }
 
@@ -156,20 +191,7 @@ fn read(alloc: Global, src: &Bytes) -> Result<Bytes, Memory>
     Ok(out)
 }
 
-// A script of the table, in which `/` stands for the line end.
-fn script_of(alloc: Global, row: &[u8]) -> Result<Bytes, Memory> {
-    let mut out = Bytes::new(alloc);
-    for b in row {
-        out.append(if *b == b'/' {
-            b"\n".as_slice()
-        } else {
-            std::slice::from_ref(b)
-        })?;
-    }
-    Ok(out)
-}
-
-/// Each row has what a script reads as, `@`, and the script.
+/// Each row has what a script reads as, `@`, and the script, with `/` for each line end.
 const TABLE: &[u8] = b"\
     line 1: 952 y@show y\n\
     1 my x [1,]; 2 show x; 3 drop x@my x = [1]/show x/drop x\n\
@@ -306,13 +328,11 @@ const TABLE: &[u8] = b"\
 fn reads_the_table(rt: HostRuntime) -> Result<(), Fail> {
     let mut rows = 0usize;
     for row in TABLE.split(|b| *b == b'\n') {
-        let Some(at) = row.iter().position(|b| *b == b'@') else {
-            return Err("a row without `@`".into());
-        };
-        let src = script_of(rt.alloc(), &row[at + 1..])?;
+        let (expected, script) = halves(row, b'@')?;
+        let src = text_of(rt.alloc(), script)?;
         assert!(rt; src.len() < 1000);
         let found = read(rt.alloc(), &src)?;
-        assert_eq!(rt; found.as_slice(), &row[..at]);
+        assert_eq!(rt; found.as_slice(), expected);
         rows = rows.wrapping_add(1);
     }
     assert_eq!(rt; rows, 130);

@@ -1,4 +1,5 @@
 //! Cases that were worked out by hand and by another program, and the limit of paragraphs.
+use crate::table_rows::{halves, text_of};
 use std::alloc::Global;
 use std::test::Fail;
 use xs_base::{Bytes, Items, Line, Memory, Refuse};
@@ -77,141 +78,77 @@ fn shown(alloc: Global, src: &Bytes, limit: usize) -> Result<Bytes, Memory> {
     Ok(out)
 }
 
-// Files, and how each is split: the C part after `S`, the module and the number of the last MODULE
-// line; the parts after `P`, or `M` and the line of `TYPEMAP:`; or the line, code and word of the
-// fault after `F`.
-const CASES: [(&str, &str); 55] = [
-    ("", "F 1 102 \n"),
-    ("MODULE = M PACKAGE = M", "S M 1\nC\n"),
-    ("=cut\nMODULE = M", "F 1 102 \n"),
-    ("=cut\n=cut\nMODULE = M", "S M 3\nC\n"),
-    (
-        "=pod\n\n=cut\nint c;\nMODULE = M\n=head1 x\nf()\n=cut\nint\ng()",
-        "S M 5\nC\n  4 int c;\nP M  \n  9 int\n  10 g()\n",
-    ),
-    (
-        "MODULE = M\nint\n=pod\n\nvoid\n=cut\nf()",
-        "S M 1\nC\nP M  \n  2 int\n  7 f()\n",
-    ),
-    ("MODULE = M\nint\n=pod\n", "F 3 105 \n"),
-    (
-        "= pod\n =pod\n=1\nMODULE = M",
-        "S M 4\nC\n  1 = pod\n  2  =pod\n  3 =1\n",
-    ),
-    ("=pod\nMODULE = N\n=cutting\nMODULE = M", "S M 4\nC\n"),
-    (
-        "MODULE = M\nTYPEMAP: <<E\n=pod\nE\n=cut\nx T_IV\nE",
-        "S M 1\nC\nM2 M  \n  6 x T_IV\n",
-    ),
-    ("MODULE = M\n=pod\n#define x\nSCOPE: x\n=cut", "S M 1\nC\n"),
-    (
-        "=pod\r\n=cut\r\nMODULE = M\r\nint\r\nf()\r\n",
-        "S M 3\nC\nP M  \n  4 int\n  5 f()\n",
-    ),
-    ("MODULE = M\r", "F 1 103 \n"),
-    (
-        "MODULE\t=\tM\tPACKAGE\t=\tA::B\tPREFIX\t=\tp_\t\nf()",
-        "S M 1\nC\nP M A::B p_\n  2 f()\n",
-    ),
-    ("  MODULE=M", "S M 1\nC\n"),
-    ("MODULE = M PREFIX = p PACKAGE = q", "F 1 103 \n"),
-    ("MODULE = M::", "F 1 103 \n"),
-    ("int x;\nMODULE", "F 2 103 \n"),
-    ("MODULEX = M", "F 1 102 \n"),
-    (
-        "int x;\nMODULE = M PACKAGE = A PREFIX = p\nint\nf()\nMODULE = N\nint\ng()",
-        "S N 5\nC\n  1 int x;\nP M A p\n  3 int\n  4 f()\nP N  \n  6 int\n  7 g()\n",
-    ),
-    (
-        "MODULE = M\nint\nf()\n  CODE:\n    MODULE = 3;",
-        "F 5 103 \n",
-    ),
-    (
-        "#define A\n# c\nMODULE = M",
-        "S M 3\nC\n  1 #define A\n  2 # c\n",
-    ),
-    (
-        "MODULE = M\n# hi\n  #if 0\nint\n# c\nf()",
-        "S M 1\nC\nP M  \n  4 int\n  6 f()\n",
-    ),
-    ("MODULE = M\nint\n#if 0", "F 3 104 \n"),
-    ("MODULE = M\n#\tdefine", "F 2 104 \n"),
-    (
-        "MODULE = M\n#iffy\n#line x\n#include x\n#defined",
-        "S M 1\nC\n",
-    ),
-    ("MODULE = M\n# line\t 3", "F 2 104 \n"),
-    ("MODULE = M\n#include\t\"a\"", "F 2 104 \n"),
-    ("MODULE = M\n #include <a>", "S M 1\nC\n"),
-    (
-        "MODULE = M\nint\n\n# c\nf()",
-        "S M 1\nC\nP M  \n  2 int\n  3 \nP M  \n  5 f()\n",
-    ),
-    (
-        "MODULE = M\n\n\nint\nf()\n\n  CODE:\n\n    x;\n\n\nvoid\ng()\n",
-        "S M 1\nC\nP M  \n  4 int\n  5 f()\n  6 \n  7   CODE:\n  8 \n  9     x;\n  10 \n  11 \nP M  \n  12 void\n  13 g()\n",
-    ),
-    (
-        "MODULE = M\n  int\nf()",
-        "S M 1\nC\nP M  \n  2   int\n  3 f()\n",
-    ),
-    (
-        "MODULE = M\nint\n \t\nf()",
-        "S M 1\nC\nP M  \n  2 int\n  3  \t\nP M  \n  4 f()\n",
-    ),
-    (
-        "MODULE = M\nBOOT: int a;\n  a = 1;\n\n  b = 2;\n\nBOOT:\nx",
-        "S M 1\nC\nP M  \n  2 BOOT: int a;\n  3   a = 1;\n  4 \nP M  \n  5   b = 2;\n  6 \nP M  \n  7 BOOT:\n  8 x\n",
-    ),
-    (
-        "MODULE = M\nPROTOTYPES: ENABLE\nBOOT:\n x",
-        "S M 1\nC\nP M  \n  3 BOOT:\n  4  x\n",
-    ),
-    ("MODULE = M\nBOOT : x", "S M 1\nC\nP M  \n  2 BOOT : x\n"),
-    (
-        "typedef int foo_t;\nMODULE = M\nREQUIRE: 1.9\nPROTOTYPES : ENABLE \n\nTYPEMAP: <<\"E\";\nfoo_t T_IV\nE\nvoid\nf(foo_t a)",
-        "S M 2\nC\n  1 typedef int foo_t;\nM6 M  \n  7 foo_t T_IV\nP M  \n  9 void\n  10 f(foo_t a)\n",
-    ),
-    ("MODULE = M\nPROTOTYPES: ON", "F 2 109 \n"),
-    ("MODULE = M\nREQUIRE: 1 2", "F 2 109 \n"),
-    ("MODULE = M\nREQUIRE:", "F 2 109 \n"),
-    (
-        "MODULE = M\nFALLBACK: UNDEF\nVERSIONCHECK:DISABLE",
-        "S M 1\nC\n",
-    ),
-    (
-        "MODULE = M\nvoid\nf()\nPROTOTYPES: ENABLE",
-        "S M 1\nC\nP M  \n  2 void\n  3 f()\n  4 PROTOTYPES: ENABLE\n",
-    ),
-    ("MODULE = M\nSCOPE: ENABLE\nvoid\nf()", "F 2 108 SCOPE\n"),
-    (
-        "MODULE = M\nSETMAGIC::x\nf()",
-        "S M 1\nC\nP M  \n  2 SETMAGIC::x\n  3 f()\n",
-    ),
-    ("MODULE = M\n SCOPE: x", "S M 1\nC\nP M  \n  2  SCOPE: x\n"),
-    ("MODULE = M\nTYPEMAP: << E\nE", "F 2 109 \n"),
-    ("MODULE = M\nTYPEMAP: <<E\nfoo_t T_IV", "F 2 106 \n"),
-    (
-        "MODULE = M\nTYPEMAP: <<'E'\n# c\nMODULE = N\n\nE \nE",
-        "S M 1\nC\nM2 M  \n  4 MODULE = N\n  5 \n  6 E \n",
-    ),
-    ("MODULE = M\nTYPEMAP: <<E;;\nE", "F 2 109 \n"),
-    ("MODULE = M\nTYPEMAP: <<\"E'\nE", "F 2 109 \n"),
-    ("MODULE = M\nTYPEMAP: <<E\n#define x\nE", "F 3 104 \n"),
-    ("MODULE = M\nTYPEMAP: <<E\n#define x", "F 2 106 \n"),
-    ("MODULE = M\nPROTOTYPES: x\n#if", "F 2 109 \n"),
-    ("MODULE = M\nint\n#if\n=pod", "F 3 104 \n"),
-    ("MODULE x\nMODULE = M\n#if", "F 1 103 \n"),
-];
+// Files, and after `@` how each is split, with `/` for each line end: the C part after `S`, the
+// module and the number of the last MODULE line; the parts after `P`, or `M` and the line of
+// `TYPEMAP:`; or the line, code and word of the fault after `F`.
+const TABLE: &[u8] = b"\
+    @F 1 102 /\n\
+    MODULE = M PACKAGE = M@S M 1/C/\n\
+    =cut/MODULE = M@F 1 102 /\n\
+    =cut/=cut/MODULE = M@S M 3/C/\n\
+    =pod//=cut/int c;/MODULE = M/=head1 x/f()/=cut/int/g()@S M 5/C/  4 int c;/P M  /  9 int/  10 g()/\n\
+    MODULE = M/int/=pod//void/=cut/f()@S M 1/C/P M  /  2 int/  7 f()/\n\
+    MODULE = M/int/=pod/@F 3 105 /\n\
+    = pod/ =pod/=1/MODULE = M@S M 4/C/  1 = pod/  2  =pod/  3 =1/\n\
+    =pod/MODULE = N/=cutting/MODULE = M@S M 4/C/\n\
+    MODULE = M/TYPEMAP: <<E/=pod/E/=cut/x T_IV/E@S M 1/C/M2 M  /  6 x T_IV/\n\
+    MODULE = M/=pod/#define x/SCOPE: x/=cut@S M 1/C/\n\
+    =pod\r/=cut\r/MODULE = M\r/int\r/f()\r/@S M 3/C/P M  /  4 int/  5 f()/\n\
+    MODULE = M\r@F 1 103 /\n\
+    MODULE\t=\tM\tPACKAGE\t=\tA::B\tPREFIX\t=\tp_\t/f()@S M 1/C/P M A::B p_/  2 f()/\n\
+    \x20 MODULE=M@S M 1/C/\n\
+    MODULE = M PREFIX = p PACKAGE = q@F 1 103 /\n\
+    MODULE = M::@F 1 103 /\n\
+    int x;/MODULE@F 2 103 /\n\
+    MODULEX = M@F 1 102 /\n\
+    int x;/MODULE = M PACKAGE = A PREFIX = p/int/f()/MODULE = N/int/g()@S N 5/C/  1 int x;/P M A p/  3 int/  4 f()/P N  /  6 int/  7 g()/\n\
+    MODULE = M/int/f()/  CODE:/    MODULE = 3;@F 5 103 /\n\
+    #define A/# c/MODULE = M@S M 3/C/  1 #define A/  2 # c/\n\
+    MODULE = M/# hi/  #if 0/int/# c/f()@S M 1/C/P M  /  4 int/  6 f()/\n\
+    MODULE = M/int/#if 0@F 3 104 /\n\
+    MODULE = M/#\tdefine@F 2 104 /\n\
+    MODULE = M/#iffy/#line x/#include x/#defined@S M 1/C/\n\
+    MODULE = M/# line\t 3@F 2 104 /\n\
+    MODULE = M/#include\t\"a\"@F 2 104 /\n\
+    MODULE = M/ #include <a>@S M 1/C/\n\
+    MODULE = M/int//# c/f()@S M 1/C/P M  /  2 int/  3 /P M  /  5 f()/\n\
+    MODULE = M///int/f()//  CODE://    x;///void/g()/@S M 1/C/P M  /  4 int/  5 f()/  6 /  7   CODE:/  8 /  9     x;/  10 /  11 /P M  /  12 void/  13 g()/\n\
+    MODULE = M/  int/f()@S M 1/C/P M  /  2   int/  3 f()/\n\
+    MODULE = M/int/ \t/f()@S M 1/C/P M  /  2 int/  3  \t/P M  /  4 f()/\n\
+    MODULE = M/BOOT: int a;/  a = 1;//  b = 2;//BOOT:/x@S M 1/C/P M  /  2 BOOT: int a;/  3   a = 1;/  4 /P M  /  5   b = 2;/  6 /P M  /  7 BOOT:/  8 x/\n\
+    MODULE = M/PROTOTYPES: ENABLE/BOOT:/ x@S M 1/C/P M  /  3 BOOT:/  4  x/\n\
+    MODULE = M/BOOT : x@S M 1/C/P M  /  2 BOOT : x/\n\
+    typedef int foo_t;/MODULE = M/REQUIRE: 1.9/PROTOTYPES : ENABLE //TYPEMAP: <<\"E\";/foo_t T_IV/E/void/f(foo_t a)@S M 2/C/  1 typedef int foo_t;/M6 M  /  7 foo_t T_IV/P M  /  9 void/  10 f(foo_t a)/\n\
+    MODULE = M/PROTOTYPES: ON@F 2 109 /\n\
+    MODULE = M/REQUIRE: 1 2@F 2 109 /\n\
+    MODULE = M/REQUIRE:@F 2 109 /\n\
+    MODULE = M/FALLBACK: UNDEF/VERSIONCHECK:DISABLE@S M 1/C/\n\
+    MODULE = M/void/f()/PROTOTYPES: ENABLE@S M 1/C/P M  /  2 void/  3 f()/  4 PROTOTYPES: ENABLE/\n\
+    MODULE = M/SCOPE: ENABLE/void/f()@F 2 108 SCOPE/\n\
+    MODULE = M/SETMAGIC::x/f()@S M 1/C/P M  /  2 SETMAGIC::x/  3 f()/\n\
+    MODULE = M/ SCOPE: x@S M 1/C/P M  /  2  SCOPE: x/\n\
+    MODULE = M/TYPEMAP: << E/E@F 2 109 /\n\
+    MODULE = M/TYPEMAP: <<E/foo_t T_IV@F 2 106 /\n\
+    MODULE = M/TYPEMAP: <<'E'/# c/MODULE = N//E /E@S M 1/C/M2 M  /  4 MODULE = N/  5 /  6 E /\n\
+    MODULE = M/TYPEMAP: <<E;;/E@F 2 109 /\n\
+    MODULE = M/TYPEMAP: <<\"E'/E@F 2 109 /\n\
+    MODULE = M/TYPEMAP: <<E/#define x/E@F 3 104 /\n\
+    MODULE = M/TYPEMAP: <<E/#define x@F 2 106 /\n\
+    MODULE = M/PROTOTYPES: x/#if@F 2 109 /\n\
+    MODULE = M/int/#if/=pod@F 3 104 /\n\
+    MODULE x/MODULE = M/#if@F 1 103 /";
 
 #[test]
 fn table(rt: HostRuntime) -> Result<(), Fail> {
     let alloc = rt.alloc();
-    for (file, expected) in CASES {
-        let src = Bytes::from_slice(alloc, file.as_bytes())?;
-        let found = shown(alloc, &src, 1000)?;
-        assert!(rt; found.as_slice() == expected.as_bytes(), "{file}");
+    let mut rows = 0usize;
+    for row in TABLE.split(|b| *b == b'\n') {
+        let (file, expected) = halves(row, b'@')?;
+        let found = shown(alloc, &text_of(alloc, file)?, 1000)?;
+        assert_eq!(rt; found.as_slice(), text_of(alloc, expected)?.as_slice());
+        rows = rows.wrapping_add(1);
     }
+    assert_eq!(rt; rows, 55);
     Ok(())
 }
 
