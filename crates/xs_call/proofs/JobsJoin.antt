@@ -5,12 +5,12 @@ use Rattle.xs_base.proofs.Stages.{bound}
 use Rattle.xs_base.specs.Reading.{◌>>=◌, Gives, collect}
 use Rattle.xs_base.specs.declared.fault.Refuse.{Refuse}
 use Rattle.xs_base.specs.declared.source.Line.{Line}
-use Rattle.xs_ctok.specs.Lexemes.{is_passed_line}
 use Rattle.xs_iface.proofs.ModulesAreSums.{module_gives_sums}
 use Rattle.xs_iface.specs.declared.xsub.Module.{Module}
 use Rattle.xs_iface.proofs.BuiltForms.{module_is_built}
 use Rattle.xs_iface.specs.Iface.{drafts_of, module_from, module_of, module_with, name_fault, xsub_of}
 use Rattle.std.specs.List.{AllByRecursion as All}
+use Rattle.xs_iface.specs.PassedLines.{is_passed_line}
 use Rattle.xs_iface.specs.SumForm.{IsSumModule}
 use Rattle.xs_machine.specs.Machine.{loaded}
 use Rattle.xs_ccheck.specs.Typing.{typed_of}

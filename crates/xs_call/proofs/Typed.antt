@@ -4,9 +4,9 @@ use Rattle.std.proofs.ByRecursion.{All-weaker}
 use Rattle.std.proofs.lemmas.Bool.{le-ltb}
 use Rattle.std.specs.Str.{bytes_eq}
 use Rattle.xs_base.specs.Reading.{◌>>=◌}
-use Rattle.xs_csyn.specs.declared.tree.PerlForm.TheVariants as form
-use Rattle.xs_csyn.specs.SyntaxTree as syntax
-use Rattle.xs_csyn.specs.SyntaxTree.{FileTree, StmtTree, stmts_of, unlined}
+use Rattle.xs_cstmt.specs.StatementTree as syntax
+use Rattle.xs_cstmt.specs.StatementTree.{StmtTree, stmts_of}
+use Rattle.xs_csyn.specs.FileTree.{FileTree, unlined}
 use Rattle.xs_iface.specs.declared.xsub.Module.{Module}
 use Rattle.xs_iface.specs.declared.xsub.Param.{Param}
 use Rattle.xs_iface.specs.declared.xsub.Xsub.{Xsub}
@@ -21,7 +21,7 @@ use Rattle.xs_perlapi.specs.declared.row.Row.TheVariants.{Entry}
 use Rattle.xs_perlapi.specs.Table.{api_words, is_api_word, is_interface_word}
 use Rattle.xs_ccheck.specs.TypedTree.{Function, Tree}
 use Rattle.xs_ccheck.specs.Typing.{Scope, after_block, done, function, functions, is_boot_name, item, item_name, perl, index_of, stmt, typed_of, variable_of}
-use Rattle.xs_stub.specs.Intended.{boot_tree, declared_param, glue_tree, int_type, sv_pointer, work_of, xsub_tree}
+use Rattle.xs_stub.specs.Intended.{boot_tree, declared_param, declared_result, dxsargs, glue_tree, work_of, xsub_tree}
 use Rattle.xs_call.specs.GlueCode.{boot_function, declarations, functions_on, glue_code, work, xsub_function}
 use Rattle.xs_sim.specs.TreeBuilders.{block_of, row_done}
 use Rattle.xs_call.proofs.TypedNames.{IndexedFrom, all_known, all_indexed, differ_after, int_at, int_local, locals_from, no_param, no_retval, no_scalar, none_found, none_known, not_reserved, scalar_at, scalar_local}
@@ -94,9 +94,6 @@ scalar_known ps slot free = no_param (codes "RETVALSV") 0 ps (results slot) (no_
 
 -- ---- the block of an XSUB
 
-abbrev declared_results : ℕ → List StmtTree
-declared_results line = syntax.Declare line int_type (codes "RETVAL") ∷ syntax.Declare line sv_pointer (codes "RETVALSV") ∷ []
-
 abbrev result_declarations : ℕ → List Tree
 result_declarations slot = code.Declare slot ∷ code.Declare (slot + 1) ∷ []
 
@@ -109,9 +106,9 @@ module _ (names : List (List ℕ)) where
       (params_declared names (within [] 0) line ps free differ (none_known ps))
 
   results_become : (line : ℕ) (ps : List Param) → All (λ p. is_free p.name ≡ true) ps
-      → Becomes names (within (locals_from 0 ps) (length ps)) (declared_results line) (result_declarations (length ps)) (working ps)
+      → Becomes names (within (locals_from 0 ps) (length ps)) (declared_result line) (result_declarations (length ps)) (working ps)
   results_become line ps free =
-      subst (λ v. Becomes names (within (locals_from 0 ps) (length ps)) (declared_results line) (result_declarations (length ps))
+      subst (λ v. Becomes names (within (locals_from 0 ps) (length ps)) (declared_result line) (result_declarations (length ps))
       (within v (length ps + 1 + 1)))
       (append_assoc (locals_from 0 ps) (int_local (codes "RETVAL") (length ps) ∷ []) (scalar_local (codes "RETVALSV") (length ps + 1) ∷ []))
       (Then (int_declared names (within (locals_from 0 ps) (length ps)) line (codes "RETVAL")
@@ -165,7 +162,7 @@ module _ (names : List (List ℕ)) where
   unfolding function
   made at line name in_boot all ts end e b k = rw (e, become names b, k, le-ltb at at (omega arith)) refl
 
-  entry_becomes : (line : ℕ) (in_boot : Bool) → stmt names (beginning in_boot) (syntax.Perl line form.DxsArgs) ≡ done (entered in_boot) (row_done Entry [])
+  entry_becomes : (line : ℕ) (in_boot : Bool) → stmt names (beginning in_boot) (syntax.Perl line dxsargs) ≡ done (entered in_boot) (row_done Entry [])
   unfolding stmt perl
   entry_becomes line in_boot = refl
 

@@ -9,44 +9,45 @@ use Rattle.xs_iface.specs.declared.xsub.Param.{Param}
 use Rattle.xs_base.specs.Scanning.{is_identifier}
 use Rattle.xs_iface.specs.SumForm.{Differ}
 use Rattle.xs_perlapi.specs.Table.{is_interface_word}
-use Rattle.xs_iface.specs.ReservedWords.{is_free, is_reserved, reserved_words}
+use Rattle.xs_iface.specs.ReservedWords.{glue_words, is_free, is_no_xsub_name}
 use Rattle.xs_ccheck.specs.declared.code.ValueType.TheVariants.{Number, Scalar}
 use Rattle.xs_ccheck.specs.declared.resolve_names.Found.{Found}
 use Rattle.xs_ccheck.specs.declared.resolve_names.Local.{Local}
-use Rattle.xs_ctok.specs.CWords.{is_no_name}
+use Rattle.xs_ctok.specs.CWords.{is_dropped_statement, is_dropped_word, is_no_name, is_reserved, other_reserved}
 use Rattle.xs_ccheck.specs.Typing.{index_from, variable_of}
 use Rattle.xs_stub.specs.Stub.{name_or_nothing}
 use Rattle.xs_values.specs.declared.kind.Kind.TheVariants.{I32}
 
 -- ---- words
 
-pub not_reserved : (word : List ℕ) → is_free word ≡ true → is_reserved word ≡ false
-not_reserved word h = not-true (is_reserved word) (and_parts (is_identifier word) (not (is_reserved word)) h).1
+pub not_reserved : (word : List ℕ) → is_free word ≡ true → is_no_xsub_name word ≡ false
+not_reserved word h = not-true (is_no_xsub_name word) (and_parts (is_identifier word) (not (is_no_xsub_name word)) h).1
 
 pub same : (name : List ℕ) → bytes_eq name name ≡ true
 same name = (bytes_eq-Decides name name).1 refl
 
--- a word that is not reserved is no word of the XS interface, and none of the other reserved words
-own_word : (word : List ℕ) → is_reserved word ≡ false → (is_interface_word word ≡ false) × (is_among reserved_words word ≡ false)
+-- a word that may name a parameter is no word of the XS interface, and none of the glue's own
+own_word : (word : List ℕ) → is_no_xsub_name word ≡ false → (is_interface_word word ≡ false) × (is_among glue_words word ≡ false)
 own_word word h =
-    or_parts (is_interface_word word) (is_among reserved_words word)
-    (or_parts (is_no_name word) (is_interface_word word || is_among reserved_words word) h).1
+    let own = or_parts (is_reserved word) (is_among glue_words word) h in
+    let kept = or_parts (is_dropped_word word) _ (or_parts (is_no_name word) _ own.0).1 in
+    ((or_parts (is_interface_word word) (is_among other_reserved word) (or_parts (is_dropped_statement word) _ kept.1).1).0, own.1)
 
-pub no_interface_word : (word : List ℕ) → is_reserved word ≡ false → is_interface_word word ≡ false
+pub no_interface_word : (word : List ℕ) → is_no_xsub_name word ≡ false → is_interface_word word ≡ false
 no_interface_word word h = (own_word word h).0
 
 -- and is another than each of these
-another : (other : List ℕ) → is_among reserved_words other ≡ true → (word : List ℕ) → is_reserved word ≡ false → bytes_eq word other ≡ false
+another : (other : List ℕ) → is_among glue_words other ≡ true → (word : List ℕ) → is_no_xsub_name word ≡ false → bytes_eq word other ≡ false
 another other among word h =
     false_from_ne_true (bytes_eq word other)
-    (λ same. both_ways (is_among reserved_words word) (own_word word h).1 (ap (is_among reserved_words) ((bytes_eq-Decides word other).0 same) ∙ among))
+    (λ same. both_ways (is_among glue_words word) (own_word word h).1 (ap (is_among glue_words) ((bytes_eq-Decides word other).0 same) ∙ among))
 
-pub no_retval : (word : List ℕ) → is_reserved word ≡ false → bytes_eq word (codes "RETVAL") ≡ false
-unfolding reserved_words
+pub no_retval : (word : List ℕ) → is_no_xsub_name word ≡ false → bytes_eq word (codes "RETVAL") ≡ false
+unfolding glue_words
 no_retval word h = another (codes "RETVAL") refl word h
 
-pub no_scalar : (word : List ℕ) → is_reserved word ≡ false → bytes_eq word (codes "RETVALSV") ≡ false
-unfolding reserved_words
+pub no_scalar : (word : List ℕ) → is_no_xsub_name word ≡ false → bytes_eq word (codes "RETVALSV") ≡ false
+unfolding glue_words
 no_scalar word h = another (codes "RETVALSV") refl word h
 
 -- ---- variables

@@ -1,10 +1,13 @@
 -- The statements of the intended tree, list by list: each becomes the code that it is meant to be.
-use Rattle.std.proofs.Common.{◌≡◌, ℕ, ◌+◌, ◌≤◌, ◌^◌, true, false, cond, List, [], ◌∷◌, ◌++◌, codes, map, length, fold, pos, nat_lt, slice_get, Some, None, refl, ap, ◌∙◌, arith}
+use Rattle.std.proofs.Common.{◌≡◌, ℕ, ◌+◌, ◌≤◌, true, false, List, [], ◌∷◌, ◌++◌, codes, map, length, fold, pos, slice_get, Some, None, refl, ap, ◌∙◌, arith}
 use Rattle.std.proofs.lemmas.Bool.Decides.{nat_tests}
-use Rattle.xs_csyn.specs.declared.tree.BinaryOp.TheVariants as c
-use Rattle.xs_csyn.specs.declared.tree.PerlForm.TheVariants as form
-use Rattle.xs_csyn.specs.SyntaxTree as syntax
-use Rattle.xs_csyn.specs.SyntaxTree.{ExprTree, StmtTree, stmts_of}
+use Rattle.std.proofs.lemmas.Int.{ints}
+use Rattle.std.specs.Int.RustNames.{int_le}
+use Rattle.xs_cinput.specs.declared.tree.BinaryOp.TheVariants as binary
+use Rattle.xs_cexpr.specs.ExpressionTree as syntax_expr
+use Rattle.xs_cstmt.specs.StatementTree as syntax_stmt
+use Rattle.xs_cexpr.specs.ExpressionTree.{ExprTree}
+use Rattle.xs_cstmt.specs.StatementTree.{StmtTree, stmts_of}
 use Rattle.xs_iface.specs.Paragraph.{greatest_int}
 use Rattle.xs_iface.specs.declared.xsub.Param.{Param}
 use Rattle.xs_iface.specs.declared.xsub.Term.{Term}
@@ -21,13 +24,17 @@ use Rattle.xs_perlapi.specs.declared.row.Row.TheVariants.{StRead, SvIv, SvNewMor
 use Rattle.xs_ccheck.specs.TypedTree.{CroakUsage, Register, Tree, Variable, ItemCount, Assign, Binary, Convert, Forget}
 use Rattle.xs_perlapi.specs.Table.{is_interface_word}
 use Rattle.xs_perlapi.specs.Table.{api_words, row_named}
-use Rattle.xs_ccheck.specs.Typing.{Scope, after_block, done, expr, is_in_use, literal, literal_kind, operator_of, perl, index_from, index_of, stmt, stmts, type_named, typed, variable_of, with_variable}
+use Rattle.xs_ccheck.specs.Typing.{Scope, after_block, done, expr, is_in_use, literal, perl, index_from, index_of, stmt, stmts, type_named, typed, variable_of, with_variable}
 use Rattle.xs_stub.specs.Intended as intended
-use Rattle.xs_stub.specs.Intended.{call_of, declared_param, int_argument, int_type, inputs_from, iv_type, registration, return_one, returned_value, sum_of, sv_pointer, usage_test}
+use Rattle.xs_stub.specs.Intended.{base_of, call_of, declared, declared_int, declared_param, int_argument, int_type, inputs_from, iv_type, no_suffix, number, registration, return_one, return_yes, returned_value, sum_of, usage_test}
 use Rattle.xs_stub.specs.Stub.{joined_names, name_or_nothing}
 use Rattle.xs_values.proofs.Wrapping.{wrapped_value-held}
-use Rattle.xs_values.specs.declared.kind.Kind.TheVariants.{I32, I64, U64}
-use Rattle.xs_values.specs.Numbers.{wrapped}
+use Rattle.xs_values.specs.declared.kind.Kind.TheVariants.{I32, I64}
+use Rattle.xs_values.specs.declared.literal.Base.{Base}
+use Rattle.xs_values.specs.declared.model.DataModel.TheVariants.{Lp64}
+use Rattle.xs_values.specs.declared.operator.Op.TheVariants as op
+use Rattle.xs_values.specs.Literals.{literal_kind_of}
+use Rattle.xs_values.specs.Numbers.{is_held, wrapped}
 use Rattle.xs_call.specs.GlueCode.{declarations, inputs, registrations, sum_on, sum_tree, term_tree}
 use Rattle.xs_sim.specs.TreeBuilders.{assign_int, assign_scalar, block_of, int_literal, nothing_done, row_done, row_of, trees_of}
 use Rattle.xs_sim.proofs.IntNumbers.{in_range}
@@ -35,37 +42,40 @@ use Rattle.xs_call.proofs.TypedNames.{Known, IndexedFrom, Unknown, int_at, int_l
 
 -- ---- numbers
 
-int_kind : (v : ℕ) → v ≤ greatest_int → literal_kind v ≡ I32
-int_kind v h = let small : nat_lt v 2147483648 ≡ true = grind (arith, nat_tests) in ap (λ b. cond b I32 (cond (nat_lt v (2 ^ 63)) I64 U64)) small
+small_held : (v : ℕ) → v ≤ greatest_int → is_held I32 (pos v) ≡ true
+small_held v h = let small : int_le (pos v) (pos 2147483647) ≡ true = grind (arith, ints, nat_tests) in rw small refl
 
-literal_typed : (v : ℕ) → v ≤ greatest_int → literal v ≡ typed (int_literal v) (Number I32)
-literal_typed v h =
-    ap (λ k. typed (code.Literal (wrapped k (pos v))) (Number k)) (int_kind v h)
+int_kind : (base : Base) (v : ℕ) → v ≤ greatest_int → literal_kind_of Lp64 base no_suffix v ≡ I32
+int_kind base v h = rw (small_held v h) refl
+
+literal_typed : (base : Base) (v : ℕ) → v ≤ greatest_int → literal base no_suffix v ≡ typed (int_literal v) (Number I32)
+literal_typed base v h =
+    ap (λ k. typed (code.Literal (wrapped k (pos v))) (Number k)) (int_kind base v h)
     ∙ ap (λ z. typed (code.Literal (record { kind = I32; value = z })) (Number I32)) (wrapped_value-held I32 (pos v) (in_range v h))
 
 -- ---- expressions
 
 module _ (variables : List Local) where
-  number_typed : (line v : ℕ) → v ≤ greatest_int → expr variables (syntax.Num line v) ≡ typed (int_literal v) (Number I32)
+  number_typed : (line v : ℕ) → v ≤ greatest_int → expr variables (number line v) ≡ typed (int_literal v) (Number I32)
   unfolding expr
-  number_typed line v h = literal_typed v h
+  number_typed line v h = literal_typed (base_of v) v h
 
   name_typed : (line : ℕ) (name : List ℕ) (slot : ℕ) (t : ValueType) → variable_of variables name ≡ Some (record { of_type = t; slot = slot })
-      → expr variables (syntax.Var line name) ≡ typed (Variable slot) t
+      → expr variables (syntax_expr.Var line name) ≡ typed (Variable slot) t
   unfolding expr
   name_typed line name slot t h = rw h refl
 
-  items_typed : (line : ℕ) → variable_of variables (codes "items") ≡ None → expr variables (syntax.Var line (codes "items")) ≡ typed ItemCount (Number I32)
+  items_typed : (line : ℕ) → variable_of variables (codes "items") ≡ None → expr variables (syntax_expr.Var line (codes "items")) ≡ typed ItemCount (Number I32)
   unfolding expr
   items_typed line h = rw h refl
 
   sum_typed : (line : ℕ) (a b : ExprTree) (t u : Tree) → expr variables a ≡ typed t (Number I32) → expr variables b ≡ typed u (Number I32)
-      → expr variables (syntax.Two line c.Add a b) ≡ typed (Binary (operator_of c.Add) t u) (Number I32)
+      → expr variables (syntax_expr.Two line (binary.On op.Add) a b) ≡ typed (Binary op.Add t u) (Number I32)
   unfolding expr
   sum_typed line a b t u h k = rw (h, k) refl
 
   differ_typed : (line : ℕ) (a b : ExprTree) (t u : Tree) → expr variables a ≡ typed t (Number I32) → expr variables b ≡ typed u (Number I32)
-      → expr variables (syntax.Two line c.NotEqual a b) ≡ typed (Binary (operator_of c.NotEqual) t u) (Number I32)
+      → expr variables (syntax_expr.Two line (binary.On op.NotEqual) a b) ≡ typed (Binary op.NotEqual t u) (Number I32)
   unfolding expr
   differ_typed line a b t u h k = rw (h, k) refl
 
@@ -79,12 +89,12 @@ module _ (variables : List Local) where
   unfolding expr row_named api_words
   number_of_typed line a t h = rw h refl
 
-  as_int_typed : (line : ℕ) (a : ExprTree) (t : Tree) → expr variables a ≡ typed t (Number I64) → expr variables (syntax.Cast line int_type a)
+  as_int_typed : (line : ℕ) (a : ExprTree) (t : Tree) → expr variables a ≡ typed t (Number I64) → expr variables (syntax_expr.Cast line (int_type line) a)
       ≡ typed (Convert I32 t) (Number I32)
   unfolding expr type_named
   as_int_typed line a t h = rw h refl
 
-  as_iv_typed : (line : ℕ) (a : ExprTree) (t : Tree) → expr variables a ≡ typed t (Number I32) → expr variables (syntax.Cast line iv_type a)
+  as_iv_typed : (line : ℕ) (a : ExprTree) (t : Tree) → expr variables a ≡ typed t (Number I32) → expr variables (syntax_expr.Cast line (iv_type line) a)
       ≡ typed (Convert I64 t) (Number I64)
   unfolding expr type_named
   as_iv_typed line a t h = rw h refl
@@ -94,13 +104,13 @@ module _ (variables : List Local) where
   argument_typed line place h = as_int_typed line _ _ (number_of_typed line _ _ (item_typed line _ _ (number_typed line place h)))
 
   int_set : (line : ℕ) (name : List ℕ) (slot : ℕ) (a : ExprTree) (t : Tree) → variable_of variables name ≡ Some (int_at slot)
-      → expr variables a ≡ typed t (Number I32) → expr variables (syntax.Set line (syntax.VarPlace line name) a)
+      → expr variables a ≡ typed t (Number I32) → expr variables (syntax_expr.Set line (syntax_expr.VarPlace line name) None a)
       ≡ typed (Assign slot (Number I32) t) (Number I32)
   unfolding expr
   int_set line name slot a t h k = rw (h, k) refl
 
   scalar_set : (line : ℕ) (name : List ℕ) (slot : ℕ) (a : ExprTree) (t : Tree) → variable_of variables name ≡ Some (scalar_at slot)
-      → expr variables a ≡ typed t Scalar → expr variables (syntax.Set line (syntax.VarPlace line name) a) ≡ typed (Assign slot Scalar t) Scalar
+      → expr variables a ≡ typed t Scalar → expr variables (syntax_expr.Set line (syntax_expr.VarPlace line name) None a) ≡ typed (Assign slot Scalar t) Scalar
   unfolding expr
   scalar_set line name slot a t h k = rw (h, k) refl
 
@@ -114,7 +124,7 @@ module _ (variables : List Local) where
   number_put line a b t u h k = rw (h, k) refl
 
   item_put : (line : ℕ) (a b : ExprTree) (t u : Tree) → expr variables a ≡ typed t (Number I32) → expr variables b ≡ typed u Scalar
-      → expr variables (syntax.Set line (syntax.StPlace line a) b) ≡ typed (row_of StSet (u ∷ t ∷ [])) Scalar
+      → expr variables (syntax_expr.Set line (syntax_expr.StPlace line a) None b) ≡ typed (row_of StSet (u ∷ t ∷ [])) Scalar
   unfolding expr
   item_put line a b t u h k = rw (h, k) refl
 
@@ -123,7 +133,8 @@ module _ (variables : List Local) where
   unfolding expr row_named api_words
   return_typed line a t h = rw h refl
 
-  usage_typed : (line : ℕ) (text : List ℕ) → expr variables (call_of line (codes "croak_xs_usage") (syntax.Var line (codes "cv") ∷ syntax.Str line text ∷ []))
+  usage_typed : (line : ℕ) (text : List ℕ)
+      → expr variables (call_of line (codes "croak_xs_usage") (syntax_expr.Var line (codes "cv") ∷ syntax_expr.Str line text ∷ []))
       ≡ typed (CroakUsage text) Void
   unfolding expr
   usage_typed line text = refl
@@ -138,9 +149,13 @@ module _ (variables : List Local) where
 
   terms_typed : (ps : List Param) (line : ℕ) (a : ExprTree) (so_far : Tree) (ts : List Term) → Known variables 0 ps → All (IsTermOf (length ps)) ts
       → expr variables a ≡ typed so_far (Number I32)
-      → expr variables (fold (λ sum term. syntax.Two line c.Add sum (intended.term_tree ps line term)) a ts) ≡ typed (sum_on so_far ts) (Number I32)
+      → expr variables (fold (λ sum term. syntax_expr.Two line (binary.On op.Add) sum (intended.term_tree ps line term)) a ts)
+      ≡ typed (sum_on so_far ts) (Number I32)
   terms_typed ps line a so_far [] k hs h = h
-  terms_typed ps line a so_far (t ∷ ts) k hs h = terms_typed ps line _ _ ts k hs.1 (sum_typed line a _ so_far (term_tree t) h (term_typed ps line t k hs.0))
+  terms_typed ps line a so_far (t ∷ ts) k hs h =
+      let term = intended.term_tree ps line t in
+      terms_typed ps line (syntax_expr.Two line (binary.On op.Add) a term) (Binary op.Add so_far (term_tree t)) ts k hs.1
+      (sum_typed line a term so_far (term_tree t) h (term_typed ps line t k hs.0))
 
 -- ---- lists of statements
 
@@ -172,23 +187,23 @@ module _ (names : List (List ℕ)) where
   joined (Then first a) b = Then first (joined a b)
 
   effect : (at : Scope) (line : ℕ) (a : ExprTree) (t : Tree) (ty : ValueType) → expr at.variables a ≡ typed t ty
-      → stmt names at (syntax.Effect line a) ≡ done at (Forget t)
+      → stmt names at (syntax_stmt.Effect line a) ≡ done at (Forget t)
   unfolding stmt
   effect at line a t ty h = rw h refl
 
   pub block : (at : Scope) (line : ℕ) (all : List StmtTree) (ts : List Tree) (end : Scope) → Becomes names at all ts end
-      → stmt names at (syntax.Block line (stmts_of all)) ≡ done (after_block at end) (block_of ts)
+      → stmt names at (syntax_stmt.Block line (stmts_of all)) ≡ done (after_block at end) (block_of ts)
   unfolding stmt
   block at line all ts end b = rw (become b) refl
 
   -- ---- declarations
 
-  pub int_declared : (at : Scope) (line : ℕ) (name : List ℕ) → is_in_use at.variables name ≡ false → stmt names at (syntax.Declare line int_type name)
+  pub int_declared : (at : Scope) (line : ℕ) (name : List ℕ) → is_in_use at.variables name ≡ false → stmt names at (declared_int line name)
       ≡ done (with_variable at name (Number I32)) (code.Declare at.slots)
   unfolding stmt type_named
   int_declared at line name h = rw h refl
 
-  pub scalar_declared : (at : Scope) (line : ℕ) (name : List ℕ) → is_in_use at.variables name ≡ false → stmt names at (syntax.Declare line sv_pointer name)
+  pub scalar_declared : (at : Scope) (line : ℕ) (name : List ℕ) → is_in_use at.variables name ≡ false → stmt names at (declared line (codes "SV") 1 name)
       ≡ done (with_variable at name Scalar) (code.Declare at.slots)
   unfolding stmt type_named
   scalar_declared at line name h = rw h refl
@@ -214,13 +229,13 @@ module _ (names : List (List ℕ)) where
   -- ---- the argument test, the sum and the result
 
   tested : (at : Scope) (line : ℕ) (test : ExprTree) (then_do : StmtTree) (t u : Tree) → expr at.variables test ≡ typed t (Number I32)
-      → stmt names at then_do ≡ done at u → stmt names at (syntax.If line test then_do) ≡ done at (code.If t u nothing_done)
+      → stmt names at then_do ≡ done at u → stmt names at (syntax_stmt.If line test then_do) ≡ done at (code.If t u nothing_done)
   unfolding stmt
   tested at line test then_do t u h k = rw (h, k) refl
 
   pub usage_becomes : (at : Scope) (line : ℕ) (ps : List Param) → variable_of at.variables (codes "items") ≡ None → length ps ≤ greatest_int
       → stmt names at (usage_test line ps)
-      ≡ done at (code.If (Binary (operator_of c.NotEqual) ItemCount (int_literal (length ps))) (Forget (CroakUsage (joined_names ps))) nothing_done)
+      ≡ done at (code.If (Binary op.NotEqual ItemCount (int_literal (length ps))) (Forget (CroakUsage (joined_names ps))) nothing_done)
   usage_becomes at line ps none few =
       tested at line _ _ _ _
       (differ_typed at.variables line _ _ _ _ (items_typed at.variables line none) (number_typed at.variables line (length ps) few))
@@ -259,7 +274,7 @@ module _ (names : List (List ℕ)) where
   unfolding stmt perl
   registered at line place x h k = rw (k, h) refl
 
-  returned_yes : (at : Scope) (line : ℕ) → stmt names at (syntax.Perl line form.XsReturnYes) ≡ done at (row_done XsReturnYes [])
+  returned_yes : (at : Scope) (line : ℕ) → stmt names at (syntax_stmt.Perl line return_yes) ≡ done at (row_done XsReturnYes [])
   unfolding stmt perl
   returned_yes at line = refl
 
@@ -268,7 +283,7 @@ module _ (names : List (List ℕ)) where
   indexed name at h = h
 
   pub registrations_become : (at : Scope) (line place : ℕ) (xs : List Xsub) → at.in_boot ≡ true → IndexedFrom 0 names place (map (λ x. x.glue) xs)
-      → Becomes names at (map (registration line) xs ++ syntax.Perl line form.XsReturnYes ∷ []) (registrations place xs) at
+      → Becomes names at (map (registration line) xs ++ syntax_stmt.Perl line return_yes ∷ []) (registrations place xs) at
   registrations_become at line place [] boot all = Then (returned_yes at line) Nothing
   registrations_become at line place (x ∷ xs) boot all =
       Then (registered at line place x boot (indexed x.glue place all.0)) (registrations_become at line (place + 1) xs boot all.1)

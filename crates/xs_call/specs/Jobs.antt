@@ -2,12 +2,10 @@
 use Rattle.std.specs.Prelude.{ℕ, List, Result, Ok}
 use Rattle.xs_base.specs.Reading.{◌>>=◌}
 use Rattle.xs_base.specs.declared.fault.Fault.{Fault}
-use Rattle.xs_base.specs.declared.source.FileOf.TheVariants.{Text}
 use Rattle.xs_meaning.specs.declared.call_command.CallCommand.{CallCommand}
 use Rattle.xs_call.specs.BuiltCalls.{calls_of_commands}
 use Rattle.xs_meaning.specs.DeclaredMeaning.{declared_transcript}
 use Rattle.xs_call.specs.MachineTranscript.{machine_transcript}
-use Rattle.xs_csyn.specs.FileReader.{file_of}
 use Rattle.xs_iface.specs.declared.xsub.Module.{Module}
 use Rattle.xs_iface.specs.Iface.{module_of}
 use Rattle.xs_machine.specs.Machine.{loaded}
@@ -15,11 +13,12 @@ use Rattle.xs_ccheck.specs.TypedTree.{Code}
 use Rattle.xs_ccheck.specs.Typing.{typed_of}
 use Rattle.xs_script.specs.Script.{script_of}
 use Rattle.xs_sections.specs.Cut.{split_of}
+use Rattle.xs_stub.specs.Intended.{text_tree}
 use Rattle.xs_stub.specs.Stub.{glue_text}
 
 -- The code of a C text: it is read, and its names and types are resolved.
 abbrev pub code_of : List ℕ → Result Code Fault
-code_of text = file_of Text text >>= typed_of
+code_of text = text_tree text >>= typed_of
 
 -- The transcript of a C text: the machine runs its code.
 unfoldable pub text_transcript : List ℕ → List CallCommand → Result (List ℕ) Fault

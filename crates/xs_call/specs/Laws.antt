@@ -5,7 +5,7 @@ use Rattle.xs_ccheck.specs.Typing.{typed_of}
 use Rattle.xs_call.specs.GlueCode.{glue_code}
 use Rattle.xs_call.specs.Headline.{ExactAfter}
 use Rattle.xs_call.specs.Jobs.{code_of, module_in, text_transcript}
-use Rattle.xs_csyn.specs.SyntaxTree.{FileTree, unlined}
+use Rattle.xs_csyn.specs.FileTree.{FileTree, unlined}
 use Rattle.xs_iface.specs.declared.xsub.Module.{Module}
 use Rattle.xs_iface.specs.SumForm.{IsSumModule}
 use Rattle.xs_meaning.specs.declared.call_command.CallCommand.{CallCommand}

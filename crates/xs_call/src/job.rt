@@ -1,15 +1,18 @@
 //! The jobs of `check`, `compile` and `call`.
 ghost use Rattle.std.specs.Prelude.{◌-◌, ◌^◌, ◌<◌, IfOk, Ok, length};
-ghost use Rattle.xs_base.specs.Reading.{Gives};
+ghost use Rattle.xs_base.specs.Reading.{Gives, GivesBy};
 ghost use Rattle.xs_call.specs.Jobs.{call_of, check_of, compile_of, module_in, text_transcript};
+ghost use Rattle.xs_csyn.specs.FileViews.{file_tree};
+ghost use Rattle.xs_stub.specs.Intended.{text_tree};
 ghost use Rattle.xs_stub.specs.Stub.{glue_text};
 
 use crate::calls::built_calls;
 use crate::running::transcript;
 use std::alloc::Global;
-use xs_base::{Bytes, FileOf, Refuse};
+use xs_base::{Bytes, FileOf, Refuse, early_end, lines};
 use xs_ccheck::check_file;
-use xs_csyn::read_file;
+use xs_csyn::{CFile, read_file};
+use xs_ctok::tokens;
 use xs_iface::{Module, read_module};
 use xs_machine::Machine;
 use xs_meaning::CallCommand;
@@ -88,13 +91,26 @@ fn run_glue(alloc: Global, m: &Module, calls: &[CallCommand]) -> Result<Bytes, R
     Ok(reported)
 }
 
+// The tree of a C text, or its first fault.
+#[tactic(auto, using(xs_ctok::proofs::ShortLines::lines_are_short))]
+fn text_tree(alloc: Global, text: &Bytes) -> Result<CFile, Refuse>
+    requires { length text.now < 2 ^ 32 - 1 }
+    ensures { GivesBy file_tree result (text_tree text.now) }
+{
+    let lines = lines(alloc, text)?;
+    let tokens = tokens(alloc, lines.as_slice(), FileOf::Text)?;
+    let last = early_end(alloc, text)?;
+    let file = read_file(alloc, tokens.as_slice(), FileOf::Text, last)?;
+    Ok(file)
+}
+
 // The transcript of a C text.
 #[tactic(auto, unfolding(crate::specs::Jobs::text_transcript))]
 fn run_text(alloc: Global, text: &Bytes, calls: &[CallCommand]) -> Result<Bytes, Refuse>
     requires { length text.now < 2 ^ 32 - 1 }
     ensures { Gives result (text_transcript text.now calls.now) }
 {
-    let file = read_file(alloc, text, FileOf::Text)?;
+    let file = text_tree(alloc, text)?;
     let typed = check_file(alloc, file)?;
     let mut machine = Machine::load(alloc, typed)?;
     let reported = transcript(alloc, &mut machine, calls)?;

@@ -5,9 +5,9 @@ use Rattle.xs_base.specs.declared.fault.Fault.{Fault}
 use Rattle.xs_base.specs.declared.fault.Refuse.{Refuse}
 use Rattle.xs_base.specs.declared.fault.Refuse.TheVariants as refuse
 use Rattle.xs_base.specs.Reading.{Fails}
-use Rattle.xs_csyn.specs.declared.tree.Expr.{Expr}
-use Rattle.xs_csyn.specs.SyntaxTree.{ExprTrees, Call, exprs_of}
-use Rattle.xs_csyn.specs.TreeViews.{expr_tree}
+use Rattle.xs_cexpr.specs.declared.tree.Expr.{Expr}
+use Rattle.xs_cexpr.specs.ExpressionTree.{ExprTrees, Call, exprs_of}
+use Rattle.xs_cexpr.specs.ExpressionViews.{expr_tree}
 use Rattle.xs_ccheck.specs.declared.resolve_names.Local.{Local}
 use Rattle.xs_ccheck.specs.Typing.{Operands, expr, exprs, usage, usage_word, called, expected_operands, expr_count}
 use Rattle.xs_perlapi.specs.Table.{row_named}

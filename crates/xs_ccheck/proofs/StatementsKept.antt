@@ -1,7 +1,8 @@
 -- Statements, rule by rule.
 use Rattle.std.proofs.Common.{◌≡◌, ℕ, true, List, Ok, refl}
-use Rattle.xs_csyn.specs.SyntaxTree as syntax
-use Rattle.xs_csyn.specs.SyntaxTree.{ExprTree, StmtTree, StmtTrees, MoreStmts}
+use Rattle.xs_cstmt.specs.StatementTree as syntax
+use Rattle.xs_cexpr.specs.ExpressionTree.{ExprTree}
+use Rattle.xs_cstmt.specs.StatementTree.{StmtTree, StmtTrees, MoreStmts}
 use Rattle.xs_ccheck.specs.TypedTree.{Tree, Trees, Block, If, Forget, NoTrees, MoreTrees}
 use Rattle.xs_ccheck.specs.Typing.{Typed_tree, Scope, done, after_block, expr, stmt, stmts, is_condition}
 

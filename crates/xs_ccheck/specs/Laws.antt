@@ -1,6 +1,6 @@
 -- The law of the types stage: lines have no part in it.
 use Rattle.std.specs.Prelude.{◌≡◌, Ok}
-use Rattle.xs_csyn.specs.SyntaxTree.{FileTree, unlined}
+use Rattle.xs_csyn.specs.FileTree.{FileTree, unlined}
 use Rattle.xs_ccheck.specs.TypedTree.{Code}
 use Rattle.xs_ccheck.specs.Typing.{typed_of}
 

@@ -4,7 +4,7 @@ use Rattle.xs_base.specs.declared.fault.Fault.{Fault}
 use Rattle.xs_base.specs.declared.fault.Refuse.{Refuse}
 use Rattle.xs_base.specs.Reading.{Fails, GivesBy}
 use Rattle.xs_csyn.specs.declared.tree.FileItem.{FileItem}
-use Rattle.xs_csyn.specs.TreeViews.{item_tree}
+use Rattle.xs_csyn.specs.FileViews.{item_tree}
 use Rattle.xs_ccheck.specs.declared.resolve_nodes.Nodes.{Nodes}
 use Rattle.xs_ccheck.specs.Growth.{HasNode, Resolves, functions_in, tree_in, trees_in}
 use Rattle.xs_ccheck.specs.TypedTree.{Function, Tree, Trees}

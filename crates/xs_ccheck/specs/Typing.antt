@@ -1,7 +1,8 @@
 -- The types stage: what the tree of a C file means once its names are resolved and its types are
 -- checked. The first fault in the order of the text is reported, where a node's own fault comes
--- after those of its parts.
-use Rattle.std.specs.Prelude.{ℕ, suc, ◌+◌, ◌^◌, pos, Bool, true, false, ◌&&◌, ◌||◌, if◌then◌else◌, nat_lt, nat_eq, List, [], ◌∷◌, ◌++◌, map, length, take, Option, Some, None, Result, Ok, Err, codes}
+-- after those of its parts. A node of a form that is not built yet is refused before its parts are
+-- looked at: its clause is `unbuilt`.
+use Rattle.std.specs.Prelude.{ℕ, suc, ◌+◌, pos, Bool, true, false, ◌&&◌, ◌||◌, if◌then◌else◌, nat_lt, nat_eq, List, [], ◌∷◌, ◌++◌, map, length, take, Option, Some, None, Result, Ok, Err, codes}
 use Rattle.std.specs.List.{position_from, starts_with}
 use Rattle.std.specs.Map.{lookup}
 use Rattle.std.specs.Option.{is_some}
@@ -9,20 +10,26 @@ use Rattle.std.specs.Str.{bytes_eq}
 use Rattle.xs_base.specs.declared.fault.Fault.{Fault}
 use Rattle.xs_base.specs.declared.fault_codes.TheConstants.{UNKNOWN_NAME, UNKNOWN_FUNCTION, TYPES_DIFFER, DECLARED_TWICE, WRONG_NUMBER_OF_ARGUMENTS, NOT_ASSIGNABLE, WORD_NOT_ALLOWED}
 use Rattle.xs_base.specs.declared.source.FileOf.TheVariants as file
-use Rattle.xs_base.specs.Reading.{◌>>=◌, fault_in}
+use Rattle.xs_base.specs.Reading.{◌>>=◌, fault_in, not_built_in}
 use Rattle.xs_values.specs.declared.kind.Kind.{Kind}
-use Rattle.xs_values.specs.declared.kind.Kind.TheVariants.{I32, I64, U64}
+use Rattle.xs_values.specs.declared.kind.Kind.TheVariants.{I32, I64}
+use Rattle.xs_values.specs.declared.literal.Base.{Base}
+use Rattle.xs_values.specs.declared.literal.Suffix.{Suffix}
+use Rattle.xs_values.specs.declared.model.DataModel.TheVariants.{Lp64}
 use Rattle.xs_values.specs.declared.operator.Op.{Op}
-use Rattle.xs_values.specs.declared.operator.Op.TheVariants as op
-use Rattle.xs_values.specs.Kinds.{common_kind}
-use Rattle.xs_values.specs.Numbers.{wrapped}
-use Rattle.xs_csyn.specs.declared.tree.BinaryOp.{BinaryOp}
-use Rattle.xs_csyn.specs.declared.tree.BinaryOp.TheVariants as c
-use Rattle.xs_csyn.specs.declared.tree.CType.{CType}
-use Rattle.xs_csyn.specs.declared.tree.PerlForm.{PerlForm}
-use Rattle.xs_csyn.specs.declared.tree.PerlForm.TheVariants as form
-use Rattle.xs_csyn.specs.SyntaxTree as syntax
-use Rattle.xs_csyn.specs.SyntaxTree.{ExprTree, ExprTrees, NoExprs, MoreExprs, PlaceTree, VarPlace, StPlace, StmtTree, StmtTrees, NoStmts, MoreStmts, FunctionTree, ItemTree, XsFunction, FileTree}
+use Rattle.xs_values.specs.Literals.{literal_kind_of}
+use Rattle.xs_values.specs.Numbers.{result_kind_of, wrapped}
+use Rattle.xs_cinput.specs.declared.tree.BinaryOp.TheVariants as c
+use Rattle.xs_csyn.specs.declared.tree.Define.{Define}
+use Rattle.xs_cstmt.specs.declared.tree.PerlForm.{PerlForm}
+use Rattle.xs_cstmt.specs.declared.tree.PerlForm.TheVariants as form
+use Rattle.xs_cstmt.specs.declared.tree.PerlWord.{PerlWord}
+use Rattle.xs_cstmt.specs.declared.tree.PerlWord.TheVariants as word
+use Rattle.xs_cexpr.specs.ExpressionTree as syntax_expr
+use Rattle.xs_cstmt.specs.StatementTree as syntax_stmt
+use Rattle.xs_cexpr.specs.ExpressionTree.{ExprTree, ExprTrees, NoExprs, MoreExprs, PlaceTree, VarPlace, TargetPlace, FieldPlace, StPlace}
+use Rattle.xs_cstmt.specs.StatementTree.{DeclaratorTree, StmtTree, StmtTrees, NoStmts, MoreStmts}
+use Rattle.xs_csyn.specs.FileTree.{XsFunTree, ItemTree, TypedefItem, RecordItem, PrototypeItem, FunctionItem, XsFunItem, FileTree}
 use Rattle.xs_perlapi.specs.declared.row.ApiType.{ApiType}
 use Rattle.xs_perlapi.specs.declared.row.ApiType.TheVariants as api
 use Rattle.xs_perlapi.specs.declared.row.Row.{Row}
@@ -51,6 +58,13 @@ not_allowed line word = fault line WORD_NOT_ALLOWED word
 
 abbrev pub wrong_count : ℕ → List ℕ → Fault
 wrong_count line name = fault line WRONG_NUMBER_OF_ARGUMENTS name
+
+abbrev pub not_built : ℕ → Fault
+not_built line = not_built_in file.Text line
+
+-- what is given of a form that is not built yet, which stands at a line
+abbrev pub unbuilt : {A : Type 0} → ℕ → Result A Fault
+unbuilt line = Err (not_built line)
 
 -- ---- names
 
@@ -94,17 +108,13 @@ goes_into (type_of.Number from) to = is_number to
 goes_into type_of.Scalar to = is_scalar to
 goes_into type_of.Void to = false
 
--- the type that is spelt so, where it may be the type of a variable
-unfoldable pub type_named : CType → Option ValueType
-type_named t =
-    if bytes_eq t.name (codes "int") && nat_eq t.stars 0 then Some (type_of.Number I32)
-    else if bytes_eq t.name (codes "IV") && nat_eq t.stars 0 then Some (type_of.Number I64)
-    else if bytes_eq t.name (codes "SV") && nat_eq t.stars 1 then Some type_of.Scalar
+-- the type of a name with so many `*` after it, where it may be the type of a variable
+unfoldable pub type_named : List ℕ → ℕ → Option ValueType
+type_named name stars =
+    if bytes_eq name (codes "int") && nat_eq stars 0 then Some (type_of.Number I32)
+    else if bytes_eq name (codes "IV") && nat_eq stars 0 then Some (type_of.Number I64)
+    else if bytes_eq name (codes "SV") && nat_eq stars 1 then Some type_of.Scalar
     else None
-
--- the kind of a decimal literal: the first of int, long and unsigned long that holds it
-abbrev pub literal_kind : ℕ → Kind
-literal_kind n = if nat_lt n (2 ^ 31) then I32 else if nat_lt n (2 ^ 63) then I64 else U64
 
 -- ---- expressions
 
@@ -121,8 +131,12 @@ pub record Operands : Type 0 where
 abbrev pub typed : Tree → ValueType → Result Typed_tree Fault
 typed t ty = Ok (record { tree = t; of_type = ty })
 
-abbrev pub literal : ℕ → Result Typed_tree Fault
-literal n = typed (Literal (wrapped (literal_kind n) (pos n))) (type_of.Number (literal_kind n))
+abbrev pub number : Kind → ℕ → Result Typed_tree Fault
+number kind n = typed (Literal (wrapped kind (pos n))) (type_of.Number kind)
+
+-- an integer literal; LP64 is the one data model so far
+abbrev pub literal : Base → Suffix → ℕ → Result Typed_tree Fault
+literal base suffix n = number (literal_kind_of Lp64 base suffix n) n
 
 -- a name that is no variable
 abbrev pub other_name : ℕ → List ℕ → Result Typed_tree Fault
@@ -158,21 +172,13 @@ put line (To_variable slot t) e =
 put line (To_item at) e =
     if is_scalar e.of_type then stored at e.tree else Err (types_differ line)
 
-abbrev pub operator_of : BinaryOp → Op
-operator_of c.Add = op.Add
-operator_of c.NotEqual = op.NotEqual
-
-abbrev pub operated_kind : BinaryOp → Kind → Kind → Kind
-operated_kind c.Add a b = common_kind a b
-operated_kind c.NotEqual a b = I32
-
-abbrev pub operated_type : BinaryOp → ValueType → ValueType → Option ValueType
-operated_type o (type_of.Number a) (type_of.Number b) = Some (type_of.Number (operated_kind o a b))
+abbrev pub operated_type : Op → ValueType → ValueType → Option ValueType
+operated_type o (type_of.Number a) (type_of.Number b) = Some (type_of.Number (result_kind_of o a b))
 operated_type o _ _ = None
 
-abbrev pub operated_as : ℕ → BinaryOp → Tree → Tree → Option ValueType → Result Typed_tree Fault
+abbrev pub operated_as : ℕ → Op → Tree → Tree → Option ValueType → Result Typed_tree Fault
 operated_as line o a b None = Err (types_differ line)
-operated_as line o a b (Some t) = typed (Binary (operator_of o) a b) t
+operated_as line o a b (Some t) = typed (Binary o a b) t
 
 abbrev pub cast_from : ℕ → Option ValueType → Typed_tree → Result Typed_tree Fault
 cast_from line None e = Err (types_differ line)
@@ -226,22 +232,12 @@ usage_word = codes "croak_xs_usage"
 
 -- whether an operand is the word cv
 abbrev pub is_cv : ExprTree → Bool
-is_cv (syntax.Var line name) = bytes_eq name (codes "cv")
-is_cv (syntax.Num line value) = false
-is_cv (syntax.Str line text) = false
-is_cv (syntax.Call line name args) = false
-is_cv (syntax.Set line place value) = false
-is_cv (syntax.Two line o a b) = false
-is_cv (syntax.Cast line to a) = false
+is_cv (syntax_expr.Var line name) = bytes_eq name (codes "cv")
+is_cv _ = false
 
 abbrev pub text_in : ExprTree → Option (List ℕ)
-text_in (syntax.Var line name) = None
-text_in (syntax.Num line value) = None
-text_in (syntax.Str line text) = Some text
-text_in (syntax.Call line name args) = None
-text_in (syntax.Set line place value) = None
-text_in (syntax.Two line o a b) = None
-text_in (syntax.Cast line to a) = None
+text_in (syntax_expr.Str line text) = Some text
+text_in _ = None
 
 abbrev pub usage_of : ℕ → Bool → Option (List ℕ) → Result Typed_tree Fault
 usage_of line true (Some text) = typed (CroakUsage text) type_of.Void
@@ -258,24 +254,39 @@ usage line (MoreExprs a (MoreExprs b (MoreExprs c more))) = Err (wrong_count lin
 module _ (variables : List Local) where
   unfoldable mutual
     pub expr : ExprTree → Result Typed_tree Fault
-    expr (syntax.Var line name) = use_of line name (variable_of variables name)
-    expr (syntax.Num line value) = literal value
-    expr (syntax.Str line text) = Err (types_differ line)
-    expr (syntax.Call line name args) =
+    expr (syntax_expr.Var line name) = use_of line name (variable_of variables name)
+    expr (syntax_expr.Num line value) = literal value.base value.suffix value.value
+    expr (syntax_expr.Str line text) = Err (types_differ line)
+    expr (syntax_expr.Call line name args) =
         if bytes_eq name usage_word then usage line args
         else (exprs (expected_operands (row_named name)) args >>= called line name (expr_count args)
         (row_named name))
-    expr (syntax.Set line place value) = do
+    expr (syntax_expr.Set line place None value) = do
       p ← place_in place
       x ← expr value
       put line p x
-    expr (syntax.Two line o a b) = do
+    expr (syntax_expr.Two line (c.On o) a b) = do
       x ← expr a
       y ← expr b
       operated_as line o x.tree y.tree (operated_type o x.of_type y.of_type)
-    expr (syntax.Cast line to a) = do
+    expr (syntax_expr.Cast line to a) = do
       x ← expr a
-      cast_from line (type_named to) x
+      cast_from line (type_named to.name to.stars) x
+    -- not built yet
+    expr (syntax_expr.Chr line byte) = unbuilt line
+    expr (syntax_expr.Paren line a) = unbuilt line
+    expr (syntax_expr.Int2Ptr line to a) = unbuilt line
+    expr (syntax_expr.Index line a at) = unbuilt line
+    expr (syntax_expr.Arrow line name field) = unbuilt line
+    expr (syntax_expr.One line o a) = unbuilt line
+    expr (syntax_expr.Deref line a) = unbuilt line
+    expr (syntax_expr.Address line name) = unbuilt line
+    expr (syntax_expr.Before line step place) = unbuilt line
+    expr (syntax_expr.After line place step) = unbuilt line
+    expr (syntax_expr.Two line c.Or a b) = unbuilt line
+    expr (syntax_expr.Two line c.And a b) = unbuilt line
+    expr (syntax_expr.Choice line test a b) = unbuilt line
+    expr (syntax_expr.Set line place (Some o) value) = unbuilt line
 
     pub exprs : List ApiType → ExprTrees → Result Operands Fault
     exprs operand_types NoExprs = Ok (record { trees = NoTrees; fit = true })
@@ -293,6 +304,9 @@ module _ (variables : List Local) where
     place_in (StPlace line at) = do
       i ← expr at
       item_place line i
+    -- not built yet
+    place_in (TargetPlace line name) = unbuilt line
+    place_in (FieldPlace line name field) = unbuilt line
 
 -- ---- statements
 
@@ -338,6 +352,19 @@ declared line scope name (Some t) =
     if is_in_use scope.variables name then Err (declared_twice line name)
     else done (with_variable scope name t) (Declare scope.slots)
 
+-- a name that is declared with a type word, where it has no value
+abbrev pub declarator : ℕ → Scope → List ℕ → Option ValueType → Option ExprTree
+    → Result (Done Tree) Fault
+declarator line scope name t None = declared line scope name t
+declarator line scope name t (Some value) = unbuilt line
+
+-- one name is declared
+abbrev pub declaration : ℕ → Scope → List ℕ → List DeclaratorTree → Result (Done Tree) Fault
+declaration line scope base [] = unbuilt line
+declaration line scope base (d ∷ []) =
+    declarator line scope d.name (type_named base d.stars) d.value
+declaration line scope base (d ∷ e ∷ more) = unbuilt line
+
 -- a condition is a number or a scalar's pointer
 abbrev pub is_condition : ValueType → Bool
 is_condition (type_of.Number kind) = true
@@ -365,28 +392,48 @@ entry line scope =
     if scope.entered then Err (not_allowed line (codes "dXSARGS"))
     else row_done (with_entry scope) Entry
 
+abbrev pub perl_word : ℕ → Scope → PerlWord → Result (Done Tree) Fault
+perl_word line scope word.DXsArgs = entry line scope
+perl_word line scope word.XsReturnYes = row_done scope XsReturnYes
+perl_word line scope _ = unbuilt line
+
 module _ (names : List (List ℕ)) where
   unfoldable pub perl : ℕ → Scope → PerlForm → Result (Done Tree) Fault
-  perl line scope form.DxsArgs = entry line scope
-  perl line scope form.XsReturnYes = row_done scope XsReturnYes
-  perl line scope (form.NewXs full function) =
-      registered_as line scope full function (index_of names function)
+  perl line scope (form.Word w) = perl_word line scope w
+  perl line scope (form.NewXs keeps full function) =
+      if keeps then unbuilt line
+      else registered_as line scope full function (index_of names function)
+  -- not built yet
+  perl line scope form.ResetStack = unbuilt line
+  perl line scope (form.SetIndex value) = unbuilt line
+  perl line scope (form.NewRecord pointer name) = unbuilt line
+  perl line scope (form.Unused name) = unbuilt line
 
   unfoldable mutual
     pub stmt : Scope → StmtTree → Result (Done Tree) Fault
-    stmt scope (syntax.Block line body) = do
+    stmt scope (syntax_stmt.Block line body) = do
       inner ← stmts scope body
       done (after_block scope inner.scope) (Block inner.tree)
-    stmt scope (syntax.Declare line t name) = declared line scope name (type_named t)
-    stmt scope (syntax.Effect line e) = do
+    stmt scope (syntax_stmt.Empty line) = done scope (Block NoTrees)
+    stmt scope (syntax_stmt.Declare d) = declaration d.line scope d.base d.names
+    stmt scope (syntax_stmt.Effect line e) = do
       x ← expr scope.variables e
       done scope (Forget x.tree)
-    stmt scope (syntax.If line test then_do) = do
+    stmt scope (syntax_stmt.If line test then_do) = do
       x ← expr scope.variables test
       holds ← a_condition line x
       branch ← stmt scope then_do
       done branch.scope (If holds branch.tree (Block NoTrees))
-    stmt scope (syntax.Perl line f) = perl line scope f
+    stmt scope (syntax_stmt.Perl line f) = perl line scope f
+    -- not built yet
+    stmt scope (syntax_stmt.IfElse line test s other) = unbuilt line
+    stmt scope (syntax_stmt.While line test s) = unbuilt line
+    stmt scope (syntax_stmt.DoWhile line s test) = unbuilt line
+    stmt scope (syntax_stmt.For line head s) = unbuilt line
+    stmt scope (syntax_stmt.Switch line a cases) = unbuilt line
+    stmt scope (syntax_stmt.Break line) = unbuilt line
+    stmt scope (syntax_stmt.Continue line) = unbuilt line
+    stmt scope (syntax_stmt.Return line value) = unbuilt line
 
     pub stmts : Scope → StmtTrees → Result (Done Trees) Fault
     stmts scope NoStmts = done scope NoTrees
@@ -408,7 +455,7 @@ is_boot_name name = starts_with nat_eq name boot_begin
 abbrev pub at_begin : List ℕ → Scope
 at_begin name = record { variables = []; slots = 0; entered = false; in_boot = is_boot_name name }
 
-abbrev pub function_done : FunctionTree → Done Trees → Function
+abbrev pub function_done : XsFunTree → Done Trees → Function
 function_done f body =
     record {
       name = f.name;
@@ -424,14 +471,19 @@ is_earlier (Some index) at = nat_lt index at
 
 module _ (names : List (List ℕ)) where
   -- The function at an index among the file's functions. No earlier function has its name.
-  unfoldable pub function : ℕ → FunctionTree → Result Function Fault
+  unfoldable pub function : ℕ → XsFunTree → Result Function Fault
   function at f = do
     body ← stmts names (at_begin f.name) f.body
     if is_earlier (index_of names f.name) at then Err (declared_twice f.line f.name)
         else Ok (function_done f body)
 
   abbrev pub item : ℕ → ItemTree → Result Function Fault
-  item at (XsFunction f) = function at f
+  item at (XsFunItem f) = function at f
+  -- not built yet
+  item at (TypedefItem t) = unbuilt t.line
+  item at (RecordItem r) = unbuilt r.line
+  item at (PrototypeItem h) = unbuilt h.line
+  item at (FunctionItem f) = unbuilt f.head.line
 
   -- the functions from an index on, after those before it
   abbrev pub functions : ℕ → List Function → List ItemTree → Result (List Function) Fault
@@ -440,11 +492,23 @@ module _ (names : List (List ℕ)) where
     here ← item at f
     functions (at + 1) (before ++ here ∷ []) all
 
+-- the name of an XS function; no other item is registered by its name
 abbrev pub item_name : ItemTree → List ℕ
-item_name (XsFunction f) = f.name
+item_name (XsFunItem f) = f.name
+item_name _ = []
 
--- the code that a file means
-unfoldable pub typed_of : FileTree → Result Code Fault
-typed_of f = do
-  all ← functions (map item_name f.items) 0 [] f.items
+-- the line of the first name that is defined as an integer
+abbrev pub first_define : List Define → Option ℕ
+first_define [] = None
+first_define (d ∷ more) = Some d.line
+
+-- the code that items mean, where no name is defined as an integer
+abbrev pub typed_items : Option ℕ → List ItemTree → Result Code Fault
+typed_items None items = do
+  all ← functions (map item_name items) 0 [] items
   Ok (record { functions = all })
+typed_items (Some line) items = unbuilt line
+
+-- The code that a file means. A name that is defined as an integer is refused before all items.
+unfoldable pub typed_of : FileTree → Result Code Fault
+typed_of f = typed_items (first_define f.defines) f.items

@@ -1,7 +1,7 @@
 //! Expressions are resolved: names become slots, and types are checked.
 ghost use Rattle.std.specs.Prelude.{◌≡◌, ◌<◌, ◌&&◌, IfOk, Ok, length, map, option_map, true, false, [], Some};
-ghost use Rattle.xs_csyn.specs.SyntaxTree.{exprs_of};
-ghost use Rattle.xs_csyn.specs.TreeViews.{expr_tree, place_tree};
+ghost use Rattle.xs_cexpr.specs.ExpressionTree.{Call, Set, Two, exprs_of};
+ghost use Rattle.xs_cexpr.specs.ExpressionViews.{expr_tree, place_tree};
 ghost use Rattle.xs_ccheck.specs.Arena.{is_before, tree_from};
 ghost use Rattle.xs_ccheck.specs.Growth.{trees_in, tree_in};
 ghost use Rattle.xs_ccheck.specs.declared.resolve_nodes.Nodes.{Nodes};
@@ -16,8 +16,8 @@ ghost use Rattle.xs_ccheck.specs.Typing as spec;
 
 use crate::code::{Node, ValueType};
 use crate::resolve_names::{
-    Found, Local, goes_into, is, is_number, is_of_operand_type, is_scalar, result_type, type_named,
-    types_differ, unknown, variable_of, worded,
+    Found, Local, goes_into, is, is_number, is_of_operand_type, is_scalar, not_built, result_type,
+    type_named, types_differ, unknown, variable_of, worded,
 };
 use crate::resolve_nodes::Nodes;
 use std::alloc::Global;
@@ -27,7 +27,7 @@ use xs_base::fault_codes::{
 use xs_base::{Bytes, Fault, FileOf, Memory, Refuse};
 use xs_csyn::{BinaryOp, Expr, Place};
 use xs_perlapi::{ApiType, Row, Signature, row_named};
-use xs_values::{Kind, Op, common, wrap};
+use xs_values::{Base, DataModel, Kind, Op, Suffix, literal_kind, result_kind, wrap};
 
 /// The node of an expression, with its type.
 #[derive(Clone, Copy, Debug)]
@@ -64,24 +64,20 @@ fn typed(nodes: &mut Nodes, node: Node, of_type: ValueType) -> Result<TypedNode,
     Ok(TypedNode { node, of_type })
 }
 
-fn literal_kind(value: u64) -> Kind
-    ensures { result ≡ spec.literal_kind value }
+// A number of a kind.
+fn number(nodes: &mut Nodes, kind: Kind, value: u64) -> Result<TypedNode, Refuse>
+    ensures { GivesExpr result nodes.old nodes.new (spec.number kind value) }
 {
-    if value < 2147483648 {
-        Kind::I32
-    } else if value < 9223372036854775808 {
-        Kind::I64
-    } else {
-        Kind::U64
-    }
+    let wrapped = wrap(kind, i128::from(value));
+    typed(nodes, Node::Literal(wrapped), ValueType::Number(kind))
 }
 
-fn literal(nodes: &mut Nodes, value: u64) -> Result<TypedNode, Refuse>
-    ensures { GivesExpr result nodes.old nodes.new (spec.literal value) }
+// An integer literal.
+fn literal(nodes: &mut Nodes, base: Base, suffix: Suffix, value: u64) -> Result<TypedNode, Refuse>
+    ensures { GivesExpr result nodes.old nodes.new (spec.literal base suffix value) }
 {
-    let kind = literal_kind(value);
-    let number = wrap(kind, i128::from(value));
-    typed(nodes, Node::Literal(number), ValueType::Number(kind))
+    let kind = literal_kind(base, suffix, value, DataModel::Lp64);
+    number(nodes, kind, value)
 }
 
 // A name that is no variable.
@@ -111,25 +107,7 @@ fn use_of(
 
 // ---- operators and casts
 
-fn operator_of(op: BinaryOp) -> Op
-    ensures { result ≡ spec.operator_of op }
-{
-    match op {
-        BinaryOp::Add => Op::Add,
-        BinaryOp::NotEqual => Op::NotEqual,
-    }
-}
-
-fn operated_kind(op: BinaryOp, a: Kind, b: Kind) -> Kind
-    ensures { result ≡ spec.operated_kind op a b }
-{
-    match op {
-        BinaryOp::Add => common(a, b),
-        BinaryOp::NotEqual => Kind::I32,
-    }
-}
-
-fn operated_type(op: BinaryOp, a: ValueType, b: ValueType) -> Option<ValueType>
+fn operated_type(op: Op, a: ValueType, b: ValueType) -> Option<ValueType>
     ensures { result ≡ spec.operated_type op a b }
 {
     let ValueType::Number(a) = a else {
@@ -138,14 +116,14 @@ fn operated_type(op: BinaryOp, a: ValueType, b: ValueType) -> Option<ValueType>
     let ValueType::Number(b) = b else {
         return None;
     };
-    Some(ValueType::Number(operated_kind(op, a, b)))
+    Some(ValueType::Number(result_kind(op, a, b)))
 }
 
 fn operated(
     alloc: Global,
     nodes: &mut Nodes,
     line: u32,
-    op: BinaryOp,
+    op: Op,
     a: TypedNode,
     b: TypedNode,
 ) -> Result<TypedNode, Refuse>
@@ -157,7 +135,7 @@ fn operated(
 {
     match operated_type(op, a.of_type, b.of_type) {
         None => Err(types_differ(alloc, line)),
-        Some(t) => typed(nodes, Node::Binary(operator_of(op), a.node, b.node), t),
+        Some(t) => typed(nodes, Node::Binary(op, a.node, b.node), t),
     }
 }
 
@@ -365,34 +343,56 @@ fn called(
 
 // ---- the usage croak
 
-#[tactic(auto, using(xs_csyn::proofs::ViewsCompute::views))]
+#[tactic(auto, using(xs_cstmt::proofs::ViewsCompute::views))]
 fn is_cv(e: &Expr) -> bool
     ensures { result ≡ spec.is_cv (expr_tree e.now) }
 {
     match e {
         Expr::Name(_, name) => is(name.as_slice(), b"cv"),
         Expr::Int(_, _)
+        | Expr::Char(_, _)
         | Expr::Text(_, _)
         | Expr::Call(_, _, _)
-        | Expr::Assign(_, _, _)
+        | Expr::Paren(_, _)
+        | Expr::Int2Ptr(_, _, _)
+        | Expr::Index(_, _, _)
+        | Expr::Arrow(_, _, _)
+        | Expr::Unary(_, _, _)
+        | Expr::Cast(_, _, _)
+        | Expr::Deref(_, _)
+        | Expr::Address(_, _)
+        | Expr::Before(_, _, _)
+        | Expr::After(_, _, _)
         | Expr::Binary(_, _, _, _)
-        | Expr::Cast(_, _, _) => false,
+        | Expr::Choice(_, _, _, _)
+        | Expr::Assign(_, _, _, _) => false,
     }
 }
 
 // A literal text.
-#[tactic(auto, using(xs_csyn::proofs::ViewsCompute::views))]
+#[tactic(auto, using(xs_cstmt::proofs::ViewsCompute::views))]
 fn text_in(e: &Expr) -> Option<&Bytes>
     ensures { option_copied result ≡ spec.text_in (expr_tree e.now) }
 {
     match e {
         Expr::Text(_, text) => Some(text),
-        Expr::Int(_, _)
-        | Expr::Name(_, _)
+        Expr::Name(_, _)
+        | Expr::Int(_, _)
+        | Expr::Char(_, _)
         | Expr::Call(_, _, _)
-        | Expr::Assign(_, _, _)
+        | Expr::Paren(_, _)
+        | Expr::Int2Ptr(_, _, _)
+        | Expr::Index(_, _, _)
+        | Expr::Arrow(_, _, _)
+        | Expr::Unary(_, _, _)
+        | Expr::Cast(_, _, _)
+        | Expr::Deref(_, _)
+        | Expr::Address(_, _)
+        | Expr::Before(_, _, _)
+        | Expr::After(_, _, _)
         | Expr::Binary(_, _, _, _)
-        | Expr::Cast(_, _, _) => None,
+        | Expr::Choice(_, _, _, _)
+        | Expr::Assign(_, _, _, _) => None,
     }
 }
 
@@ -441,7 +441,7 @@ fn usage(alloc: Global, nodes: &mut Nodes, line: u32, args: &[Expr]) -> Result<T
 // ---- any expression
 
 #[cycle(expr)]
-#[tactic(auto, using(xs_csyn::proofs::ViewsCompute::views), unfolding(crate::specs::Typing::expr))]
+#[tactic(auto, using(xs_cstmt::proofs::ViewsCompute::views), unfolding(crate::specs::Typing::expr))]
 pub(crate) fn expr(
     alloc: Global,
     nodes: &mut Nodes,
@@ -458,41 +458,107 @@ pub(crate) fn expr(
             name.as_slice(),
             variable_of(locals, name.as_slice()),
         ),
-        Expr::Int(_, value) => literal(nodes, *value),
+        Expr::Int(_, value) => literal(nodes, value.base, value.suffix, value.value),
         Expr::Text(line, _) => Err(types_differ(alloc, *line)),
-        Expr::Call(line, name, args) => {
-            if is(name.as_slice(), b"croak_xs_usage") {
-                return usage(alloc, nodes, *line, args.as_slice());
-            }
-            let row = row_named(name.as_slice());
-            let xs = exprs(
-                alloc,
-                nodes,
-                locals,
-                expected_operands(row),
-                args.as_slice(),
-            )?;
-            called(alloc, nodes, *line, name.as_slice(), args.len(), row, xs)
+        Expr::Call(line, name, args) => call(alloc, nodes, locals, *line, name, args),
+        Expr::Assign(line, place, op, value) => {
+            assign(alloc, nodes, locals, *line, place, *op, value)
         }
-        Expr::Assign(line, place, value) => {
-            let to = place_in(alloc, nodes, locals, place)?;
-            let x = expr(alloc, nodes, locals, value)?;
-            put(alloc, nodes, *line, to, x)
-        }
-        Expr::Binary(line, op, a, b) => {
-            let x = expr(alloc, nodes, locals, a)?;
-            let y = expr(alloc, nodes, locals, b)?;
-            operated(alloc, nodes, *line, *op, x, y)
-        }
+        Expr::Binary(line, op, a, b) => binary(alloc, nodes, locals, *line, *op, a, b),
         Expr::Cast(line, to, a) => {
             let x = expr(alloc, nodes, locals, a)?;
-            cast_from(alloc, nodes, *line, type_named(to), x)
+            let of_type = type_named(to.name.as_slice(), to.stars);
+            cast_from(alloc, nodes, *line, of_type, x)
         }
+        Expr::Char(line, _)
+        | Expr::Paren(line, _)
+        | Expr::Int2Ptr(line, _, _)
+        | Expr::Index(line, _, _)
+        | Expr::Arrow(line, _, _)
+        | Expr::Unary(line, _, _)
+        | Expr::Deref(line, _)
+        | Expr::Address(line, _)
+        | Expr::Before(line, _, _)
+        | Expr::After(line, _, _)
+        | Expr::Choice(line, _, _, _) => Err(not_built(alloc, *line)),
     }
 }
 
+// An assignment.
 #[cycle(expr)]
-#[tactic(auto, using(xs_csyn::proofs::ViewsCompute::views), unfolding(crate::specs::Typing::expr))]
+#[tactic(auto, using(xs_cstmt::proofs::ViewsCompute::views), unfolding(crate::specs::Typing::expr))]
+fn assign(
+    alloc: Global,
+    nodes: &mut Nodes,
+    locals: &[Local],
+    line: u32,
+    place: &Place,
+    op: Option<Op>,
+    value: &Expr,
+) -> Result<TypedNode, Refuse>
+    ensures { GivesExpr result nodes.old nodes.new
+        (spec.expr locals.now (Set line (place_tree place.now) op (expr_tree value.now))) }
+{
+    match op {
+        None => {
+            let to = place_in(alloc, nodes, locals, place)?;
+            let x = expr(alloc, nodes, locals, value)?;
+            put(alloc, nodes, line, to, x)
+        }
+        Some(_) => Err(not_built(alloc, line)),
+    }
+}
+
+// Two operands with an operator.
+#[cycle(expr)]
+#[tactic(auto, using(xs_cstmt::proofs::ViewsCompute::views), unfolding(crate::specs::Typing::expr))]
+fn binary(
+    alloc: Global,
+    nodes: &mut Nodes,
+    locals: &[Local],
+    line: u32,
+    op: BinaryOp,
+    a: &Expr,
+    b: &Expr,
+) -> Result<TypedNode, Refuse>
+    ensures { GivesExpr result nodes.old nodes.new
+        (spec.expr locals.now (Two line op (expr_tree a.now) (expr_tree b.now))) }
+{
+    match op {
+        BinaryOp::On(op) => {
+            let x = expr(alloc, nodes, locals, a)?;
+            let y = expr(alloc, nodes, locals, b)?;
+            operated(alloc, nodes, line, op, x, y)
+        }
+        BinaryOp::Or | BinaryOp::And => Err(not_built(alloc, line)),
+    }
+}
+
+// A call of a name.
+#[cycle(expr)]
+#[tactic(auto, using(xs_cstmt::proofs::ViewsCompute::views), unfolding(crate::specs::Typing::expr))]
+fn call(
+    alloc: Global,
+    nodes: &mut Nodes,
+    locals: &[Local],
+    line: u32,
+    name: &Bytes,
+    args: &[Expr],
+) -> Result<TypedNode, Refuse>
+    ensures { GivesExpr result nodes.old nodes.new
+        (spec.expr locals.now (Call line name.now (exprs_of (map expr_tree args.now)))) }
+{
+    let word = name.as_slice();
+    if is(word, b"croak_xs_usage") {
+        return usage(alloc, nodes, line, args);
+    }
+    let row = row_named(word);
+    let xs = exprs(alloc, nodes, locals, expected_operands(row), args)?;
+    called(alloc, nodes, line, word, args.len(), row, xs)
+}
+
+#[cycle(expr)]
+#[tactic(auto, using(xs_cstmt::proofs::ViewsCompute::views), unfolding(crate::specs::Typing::expr))]
 fn exprs(
     alloc: Global,
     nodes: &mut Nodes,
@@ -513,7 +579,7 @@ fn exprs(
 }
 
 #[cycle(expr)]
-#[tactic(auto, using(xs_csyn::proofs::ViewsCompute::views), unfolding(crate::specs::Typing::expr))]
+#[tactic(auto, using(xs_cstmt::proofs::ViewsCompute::views), unfolding(crate::specs::Typing::expr))]
 fn place_in(
     alloc: Global,
     nodes: &mut Nodes,
@@ -534,5 +600,6 @@ fn place_in(
             let i = expr(alloc, nodes, locals, at)?;
             item_place(alloc, *line, i)
         }
+        Place::Target(line, _) | Place::Field(line, _, _) => Err(not_built(alloc, *line)),
     }
 }

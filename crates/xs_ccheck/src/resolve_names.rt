@@ -9,7 +9,6 @@ use std::alloc::Global;
 use std::marker::Model;
 use xs_base::fault_codes::{DECLARED_TWICE, TYPES_DIFFER, WORD_NOT_ALLOWED};
 use xs_base::{Bytes, Fault, FileOf, Memory, Refuse};
-use xs_csyn::CType;
 use xs_perlapi::{ApiType, is_interface_word};
 use xs_values::Kind;
 
@@ -34,6 +33,13 @@ pub(crate) fn declared_twice(line: u32, name: Bytes) -> Refuse
     ensures { result ≡ refuse.Fault (spec.declared_twice line name) }
 {
     Refuse::Fault(Fault::new(FileOf::Text, line, DECLARED_TWICE, name))
+}
+
+// The fault of a form that is not built yet.
+pub(crate) fn not_built(alloc: Global, line: u32) -> Refuse
+    ensures { result ≡ refuse.Fault (spec.not_built line) }
+{
+    Refuse::Fault(Fault::not_built(alloc, FileOf::Text, line))
 }
 
 // The fault of a word.
@@ -99,24 +105,25 @@ pub(crate) fn goes_into(from: ValueType, to: ValueType) -> bool
     }
 }
 
-fn is_spelled(t: &CType, name: &[u8], stars: u32) -> bool
-    ensures { result ≡ (bytes_eq t.now.name name.now && nat_eq t.now.stars stars) }
+// Whether a name with so many `*` after it is another name with another number of them.
+fn is_spelled(name: &[u8], stars: u32, other: &[u8], count: u32) -> bool
+    ensures { result ≡ (bytes_eq name.now other.now && nat_eq stars count) }
 {
-    t.name.as_slice() == name && t.stars == stars
+    name == other && stars == count
 }
 
-// The type that is spelt so, where it may be the type of a variable.
+// The type of a name with so many `*` after it, where it may be the type of a variable.
 #[tactic(auto, unfolding(crate::specs::Typing::type_named))]
-pub(crate) fn type_named(t: &CType) -> Option<ValueType>
-    ensures { result ≡ spec.type_named t.now }
+pub(crate) fn type_named(name: &[u8], stars: u32) -> Option<ValueType>
+    ensures { result ≡ spec.type_named name.now stars }
 {
-    if is_spelled(t, b"int", 0) {
+    if is_spelled(name, stars, b"int", 0) {
         return Some(ValueType::Number(Kind::I32));
     }
-    if is_spelled(t, b"IV", 0) {
+    if is_spelled(name, stars, b"IV", 0) {
         return Some(ValueType::Number(Kind::I64));
     }
-    if is_spelled(t, b"SV", 1) {
+    if is_spelled(name, stars, b"SV", 1) {
         return Some(ValueType::Scalar);
     }
     None

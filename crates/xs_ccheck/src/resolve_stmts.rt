@@ -1,7 +1,9 @@
 //! Statements are resolved.
-ghost use Rattle.std.specs.Prelude.{◌≡◌, ◌<◌, None, Some, Ok, length, map, true, []};
-ghost use Rattle.xs_csyn.specs.SyntaxTree.{stmts_of};
-ghost use Rattle.xs_csyn.specs.TreeViews.{item_tree, stmt_tree};
+ghost use Rattle.std.specs.Prelude.{◌≡◌, ◌<◌, None, Some, Ok, length, map, option_map, true, []};
+ghost use Rattle.xs_cstmt.specs.StatementTree.{stmts_of};
+ghost use Rattle.xs_cexpr.specs.ExpressionViews.{expr_tree};
+ghost use Rattle.xs_cstmt.specs.StatementViews.{declarator_tree, stmt_tree};
+ghost use Rattle.xs_csyn.specs.FileViews.{item_tree};
 ghost use Rattle.xs_ccheck.specs.Arena.{is_before, tree_from};
 ghost use Rattle.xs_ccheck.specs.Growth.{tree_in, trees_in};
 ghost use Rattle.xs_ccheck.specs.NamedParts.{has_text};
@@ -12,13 +14,13 @@ ghost use Rattle.xs_ccheck.specs.Typing as spec;
 use crate::code::{Node, ValueType};
 use crate::resolve_exprs::expr;
 use crate::resolve_names::{
-    Scope, declared_twice, is, not_allowed, type_named, types_differ, worded,
+    Scope, declared_twice, is, not_allowed, not_built, type_named, types_differ, worded,
 };
 use crate::resolve_nodes::{Nodes, next_index};
 use std::alloc::Global;
 use xs_base::fault_codes::UNKNOWN_FUNCTION;
 use xs_base::{Bytes, Refuse};
-use xs_csyn::{FileItem, PerlForm, Stmt};
+use xs_csyn::{Declarator, Expr, FileItem, PerlForm, PerlWord, Stmt};
 use xs_perlapi::Row;
 
 // ---- single nodes
@@ -56,6 +58,15 @@ fn register(alloc: Global, nodes: &mut Nodes, full: &Bytes, function: u32) -> Re
     let text = nodes.add_text(full)?;
     let row = nodes.add(Node::Register(text, function))?;
     done(nodes, Node::Forget(row))
+}
+
+// A statement that does nothing.
+fn nothing_done(nodes: &mut Nodes) -> Result<u32, Refuse>
+    ensures { (scope : spec.Scope)
+        → GivesStmt result nodes.old nodes.new scope (spec.done scope (Block NoTrees)) }
+{
+    let none = nodes.add(Node::NoTrees)?;
+    done(nodes, Node::Block(none))
 }
 
 // An if whose other branch does nothing.
@@ -114,6 +125,55 @@ fn declared(
     done(nodes, Node::Declare(slot))
 }
 
+// A name that is declared with a type, where it has no value.
+fn declarator(
+    alloc: Global,
+    nodes: &mut Nodes,
+    scope: &mut Scope,
+    line: u32,
+    name: &Bytes,
+    of_type: Option<ValueType>,
+    value: &Option<Expr>,
+) -> Result<u32, Refuse>
+    ensures { GivesStmt result nodes.old nodes.new scope.new
+        (spec.declarator line scope.old name.now of_type (option_map expr_tree value.now)) }
+{
+    match value {
+        None => declared(alloc, nodes, scope, line, name, of_type),
+        Some(_) => Err(not_built(alloc, line)),
+    }
+}
+
+// One name is declared.
+fn declaration(
+    alloc: Global,
+    nodes: &mut Nodes,
+    scope: &mut Scope,
+    line: u32,
+    base: &[u8],
+    names: &[Declarator],
+) -> Result<u32, Refuse>
+    ensures { GivesStmt result nodes.old nodes.new scope.new
+        (spec.declaration line scope.old base.now (map declarator_tree names.now)) }
+{
+    let Some((first, others)) = names.split_first() else {
+        return Err(not_built(alloc, line));
+    };
+    if others.split_first().is_some() {
+        return Err(not_built(alloc, line));
+    }
+    let of_type = type_named(base, first.stars);
+    declarator(
+        alloc,
+        nodes,
+        scope,
+        line,
+        &first.name,
+        of_type,
+        &first.value,
+    )
+}
+
 fn is_condition(t: ValueType) -> bool
     ensures { result ≡ spec.is_condition t }
 {
@@ -128,6 +188,7 @@ fn item_name(item: &FileItem) -> &[u8]
 {
     match item {
         FileItem::XsFun(f) => f.name.as_slice(),
+        _ => &[],
     }
 }
 
@@ -177,6 +238,22 @@ fn entry(alloc: Global, nodes: &mut Nodes, scope: &mut Scope, line: u32) -> Resu
     bare_row(nodes, Row::Entry)
 }
 
+fn perl_word(
+    alloc: Global,
+    nodes: &mut Nodes,
+    scope: &mut Scope,
+    line: u32,
+    word: PerlWord,
+) -> Result<u32, Refuse>
+    ensures { GivesStmt result nodes.old nodes.new scope.new (spec.perl_word line scope.old word) }
+{
+    match word {
+        PerlWord::DXsArgs => entry(alloc, nodes, scope, line),
+        PerlWord::XsReturnYes => bare_row(nodes, Row::XsReturnYes),
+        _ => Err(not_built(alloc, line)),
+    }
+}
+
 #[tactic(auto, unfolding(crate::specs::Typing::perl))]
 fn perl(
     alloc: Global,
@@ -190,9 +267,15 @@ fn perl(
         (spec.perl (names_in items.now) line scope.old form.now) }
 {
     match form {
-        PerlForm::DxsArgs => entry(alloc, nodes, scope, line),
-        PerlForm::XsReturnYes => bare_row(nodes, Row::XsReturnYes),
-        PerlForm::NewXs { full, function } => {
+        PerlForm::Word(word) => perl_word(alloc, nodes, scope, line, *word),
+        PerlForm::NewXs {
+            keeps,
+            full,
+            function,
+        } => {
+            if *keeps {
+                return Err(not_built(alloc, line));
+            }
             let index = index_of(items, function.as_slice());
             registered_as(
                 alloc,
@@ -204,13 +287,17 @@ fn perl(
                 index,
             )
         }
+        PerlForm::ResetStack
+        | PerlForm::SetIndex(_)
+        | PerlForm::NewRecord { .. }
+        | PerlForm::Unused(_) => Err(not_built(alloc, line)),
     }
 }
 
 // ---- any statement
 
 #[cycle(stmt)]
-#[tactic(auto, using(xs_csyn::proofs::ViewsCompute::views), unfolding(crate::specs::Typing::stmt))]
+#[tactic(auto, using(xs_cstmt::proofs::ViewsCompute::views), unfolding(crate::specs::Typing::stmt))]
 fn stmt(
     alloc: Global,
     nodes: &mut Nodes,
@@ -228,7 +315,11 @@ fn stmt(
             scope.forget_after(known);
             done(nodes, Node::Block(inner))
         }
-        Stmt::Declare(line, t, name) => declared(alloc, nodes, scope, *line, name, type_named(t)),
+        Stmt::Empty(_) => nothing_done(nodes),
+        Stmt::Declare(d) => {
+            let base = d.base.as_slice();
+            declaration(alloc, nodes, scope, d.line, base, d.names.as_slice())
+        }
         Stmt::Effect(_, e) => {
             let x = expr(alloc, nodes, scope.locals(), e)?;
             done(nodes, Node::Forget(x.node))
@@ -242,11 +333,19 @@ fn stmt(
             conditional(nodes, x.node, branch)
         }
         Stmt::Perl(line, form) => perl(alloc, nodes, scope, items, *line, form),
+        Stmt::IfElse(line, _, _, _)
+        | Stmt::While(line, _, _)
+        | Stmt::DoWhile(line, _, _)
+        | Stmt::For(line, _, _)
+        | Stmt::Switch(line, _, _)
+        | Stmt::Break(line)
+        | Stmt::Continue(line)
+        | Stmt::Return(line, _) => Err(not_built(alloc, *line)),
     }
 }
 
 #[cycle(stmt)]
-#[tactic(auto, using(xs_csyn::proofs::ViewsCompute::views), unfolding(crate::specs::Typing::stmt))]
+#[tactic(auto, using(xs_cstmt::proofs::ViewsCompute::views), unfolding(crate::specs::Typing::stmt))]
 pub(crate) fn stmts(
     alloc: Global,
     nodes: &mut Nodes,

@@ -1,253 +1,476 @@
--- What is a file by the rules is read.
-use Rattle.std.proofs.Common.{◌≡◌, ℕ, zero, suc, ◌-◌, ◌<◌, ◌≤◌, true, false, ◌&&◌, ◌==◌, List, [], ◌∷◌, ◌++◌, length, append_assoc, append-nil, Result, Ok, refl, ap, ◌∙◌, arith}
+-- What is a file by the rules, or a piece of one, is read as that, and so it has no other reading.
+use Rattle.std.proofs.Common.{◌≡◌, ℕ, zero, suc, ◌+◌, ◌-◌, ◌<◌, ◌≤◌, max, Bool, true, false, if◌then◌else◌, ◌&&◌, not, List, [], ◌∷◌, ◌++◌, length, append_assoc, append-nil, Some, Result, Ok, refl, ap, sym, ◌∙◌, arith}
+use Rattle.std.proofs.lemmas.Bool.{and_parts, and_right, not-true}
 use Rattle.std.specs.Prelude.{codes}
-use Rattle.std.specs.Str.{bytes_eq}
-use Rattle.std.proofs.lemmas.Bool.{and_parts}
-use Rattle.xs_base.specs.declared.fault.Refuse.{Refuse}
-use Rattle.xs_base.specs.declared.source.FileOf.{FileOf}
-use Rattle.xs_base.specs.Lines.{early_end}
-use Rattle.xs_base.specs.Reading.{GivesBy}
-use Rattle.xs_ctok.specs.declared.token.Token.{Token}
-use Rattle.xs_csyn.specs.declared.tree.CFile.{CFile}
-use Rattle.xs_csyn.specs.declared.tree.CType.{CType}
-use Rattle.xs_csyn.specs.declared.tree.PerlForm.TheVariants as form
-use Rattle.xs_values.specs.declared.model.DataModel.TheVariants as model
-use Rattle.xs_csyn.specs.SyntaxTree as t
-use Rattle.xs_csyn.specs.SyntaxTree.{ExprTree, StmtTree, StmtTrees, FunctionTree, ItemTree, XsFunction, stmts_of}
-use Rattle.xs_ctok.specs.CWords.{type_words}
+use Rattle.xs_base.proofs.ReaderSteps.{same_outcome}
 use Rattle.xs_base.specs.Names.{is_among}
-use Rattle.xs_csyn.specs.TokenInput.{Input, Outcome, is_sign, is_sign_kind, is_key, is_word_kind, is_quoted, is_type_word, sees, sees_key, sees_type, sees_name, line, next, after, expect, expect_key, spelling, left, a_name}
-use Rattle.xs_base.specs.Readers.{head_is}
-use Rattle.xs_csyn.specs.ExpressionReader.{expr}
-use Rattle.xs_csyn.specs.StatementReader.{max_nesting, an_expr, is_word_form, is_new_xs, sees_word_form, sees_new_xs, word_form, new_xs, effect, simple, declaration, part, parts_from, parts, block, condition, opens, stmt}
-use Rattle.xs_csyn.specs.FileReader.{body_begins, function, items_from, items, tree_of, file_of}
-use Rattle.xs_csyn.specs.Heights.{height, depth, depths, tallest, tallest_of, AreWithin}
-use Rattle.xs_csyn.specs.TreeViews.{file_tree}
-use Rattle.xs_csyn.specs.GlueGrammar as g
-use Rattle.xs_csyn.specs.GlueGrammar.{Whole, AType, Declaration, Statement, Parts, File, IsTextOf, begins_body, Is, IsKey, MayName, line_of}
-use Rattle.xs_csyn.proofs.FilesSound.{whole_line}
-use Rattle.xs_csyn.proofs.ExpressionsComplete.{word_only, is_key_of, marks, no_mark, names_no_mark, no_key_by_mark, Stop, Starts, whole_starts, StopsWhole, closes, ends, at, type_done, whole_done, whole_shrinks, type_shrinks}
+use Rattle.xs_base.specs.Readers.{head_is, tail}
+use Rattle.xs_base.specs.declared.fault.Fault.{Fault}
+use Rattle.xs_base.specs.declared.source.FileOf.{FileOf}
+use Rattle.xs_base.specs.declared.source.FileOf.TheVariants as which
+use Rattle.xs_ctok.specs.declared.token.TokKind.TheVariants as kind
+use Rattle.xs_ctok.specs.declared.token.Token.{Token}
+use Rattle.xs_csyn.proofs.ExpressionsComplete.{found_of, type_done, type_first, whole_read}
+use Rattle.xs_csyn.proofs.Marks.{mark_no_word, marks, name_no_mark, no_mark, type_no_mark, variable_name, word_no_type, word_only, words}
+use Rattle.xs_csyn.proofs.Sizes.{head_shrinks, item_shrinks, parameter_shrinks, part_shrinks, type_shrinks, whole_shrinks}
+use Rattle.xs_csyn.proofs.Starts.{Ends, Stop, comma, the_end}
+use Rattle.xs_csyn.proofs.StatementsComplete.{list_of, name_no_join, part_done, parts_done, stmts_of-list_of}
+use Rattle.xs_csyn.proofs.Yields.{at}
+use Rattle.xs_cexpr.specs.ExpressionReader.{Found, expr}
+use Rattle.xs_csyn.specs.FileGrammar as g
+use Rattle.xs_csyn.specs.FileGrammar.{AHead, AreNames, Fields, File, IsFile, Item, Parameter, Parameters, SomeParameters, begins_body}
+use Rattle.xs_cinput.specs.TypeReader.{with_name}
+use Rattle.xs_csyn.specs.FileReader.{a_record, a_typedef, args_from, args_of, block_of, body, body_begins, expr_of, field, fields, fields_from, file_of, function, head, item, items_from, items_of, named_type, parameter, parameters, parameters_from, rest_from, sees_none, some_args, some_parameters, start, type_of_item, whole_of, with_types_of, xs_function}
+use Rattle.xs_csyn.specs.Grammar as rules
+use Rattle.xs_csyn.specs.Grammar.{AType, Is, IsWord, MayName, Stars, Whole, Words}
+use Rattle.xs_cexpr.specs.ExpressionHeights.{height, heights}
+use Rattle.xs_cstmt.specs.StatementHeights.{depths, tallest_of}
+use Rattle.xs_csyn.specs.FileHeights.{Fit, FitItems, FitsItem}
+use Rattle.xs_csyn.specs.StatementGrammar as s
+use Rattle.xs_csyn.specs.StatementGrammar.{AllArguments, ArgumentList, Parts, Rest}
+use Rattle.xs_cstmt.specs.StatementReader.{max_nesting, part, parts, stmt}
+use Rattle.xs_csyn.specs.FileTree as tree
+use Rattle.xs_cexpr.specs.ExpressionTree.{ExprTree, exprs_of}
+use Rattle.xs_cstmt.specs.StatementTree.{StmtTree, StmtTrees, stmts_of}
+use Rattle.xs_csyn.specs.FileTree.{FileTree, ItemTree}
+use Rattle.xs_cinput.specs.TokenInput.{Input, Outcome, a_name, a_variable, after, at_end, expect, is_empty, expect_word, is_passed, is_passed_pair, is_punct_kind, is_sign, is_type, is_word, is_word_kind, kept, kept_from, line, next, sees, sees_name, sees_variable, sees_word, spelling}
+use Rattle.xs_cinput.specs.TypeReader.{is_joined_by, join_table, joins}
+use Rattle.xs_ctok.specs.CWords.{is_no_name, is_type_word}
+use Rattle.xs_cexpr.specs.declared.node.Level.TheVariants as level
+use Rattle.xs_cinput.specs.declared.tree.CType.{CType}
+use Rattle.xs_csyn.specs.declared.tree.Head.{Head}
+use Rattle.xs_csyn.specs.declared.tree.Par.{Par}
 
 -- ---- words
 
--- what is known of a word of the grammar at the front
-key_no_mark : (word m : List ℕ) (n : Token) → IsKey word n → is_sign m n ≡ false
-key_no_mark word m n e = no_mark m n (ap is_sign_kind (is_key_of word n e).0)
+grammar_word : (is_no_name (codes "struct") ≡ true) × (is_no_name (codes "typedef") ≡ true) × (is_no_name (codes "XS") ≡ true)
+unfolding is_no_name
+grammar_word = (refl, refl, refl)
 
-key_is : (word other : List ℕ) (n : Token) → IsKey word n → is_key other n ≡ bytes_eq word other
-key_is word other n e = let k = is_key_of word n e in ap (λ s. is_word_kind s && bytes_eq n.text other) k.0 ∙ ap (λ x. bytes_eq x other) k.1
+no_type_word : (is_type_word (codes "struct") ≡ false) × (is_type_word (codes "typedef") ≡ false) × (is_type_word (codes "XS") ≡ false)
+unfolding is_type_word
+no_type_word = (refl, refl, refl)
 
-key_type : (word : List ℕ) (n : Token) → IsKey word n → is_type_word n ≡ is_among type_words word
-key_type word n e = let k = is_key_of word n e in ap (λ s. is_word_kind s && is_among type_words n.text) k.0 ∙ ap (is_among type_words) k.1
+join_kind : (name : List ℕ) (t : Token) → joins name t ≡ true → t.kind ≡ kind.Word
+join_kind name t j = word_only t.kind (and_parts (is_word_kind t.kind) (is_joined_by join_table name t.text) j).0
 
--- ---- sizes
+-- a type begins with no word of the grammar
+type_no_word : (types : List (List ℕ)) (names : AreNames types) (word : List ℕ) (t : Token) → is_type types t ≡ true → is_no_name word ≡ true
+    → is_type_word word ≡ false → is_word word t ≡ false
+type_no_word types names word t is isnt other = by (is_word word t) refl
+  where
+    by : (c : Bool) → is_word word t ≡ c → is_word word t ≡ false
+    by false e = e
+    by true e = let f = word_no_type types word t names e isnt other in absurd cc
 
-pub declaration_shrinks : {s : StmtTree} {ts us : List Token} → Declaration s ts us → length us < length ts
-declaration_shrinks (g.declare ty n e) = omega (arith, type_shrinks ty)
+-- ---- what follows the first token of a parameter
 
-mutual
-  pub stmt_shrinks : {s : StmtTree} {ts us : List Token} → Statement s ts us → length us < length ts
-  stmt_shrinks (g.block op x) = omega (arith, parts_shrink x)
-  stmt_shrinks (g.condition k op x cl y) = omega (arith, whole_shrinks x, stmt_shrinks y)
-  stmt_shrinks (g.args k e) = omega arith
-  stmt_shrinks (g.return_yes k e) = omega arith
-  stmt_shrinks (g.new_xs a b c d e f h) = omega arith
-  stmt_shrinks (g.effect w n x e) = omega (arith, whole_shrinks x)
+words_go_on : {types : List (List ℕ)} {name : List ℕ} {ts us : List Token} → Words types name ts us → Stop (codes ")") us → Stop (codes ")") (tail ts)
+words_go_on (rules.one_word i) stop = stop
+words_go_on (rules.two_words {t = t} {u = u} i j) stop = no_mark (codes ")") u (ap is_punct_kind (join_kind t.text u j))
+words_go_on (rules.three_words {t = t} {u = u} i j k) stop = no_mark (codes ")") u (ap is_punct_kind (join_kind t.text u j))
 
-  pub parts_shrink : {all : StmtTrees} {ts us : List Token} → Parts all ts us → length us < length ts
-  parts_shrink (g.over e) = omega arith
-  parts_shrink (g.declared x y) = omega (arith, declaration_shrinks x, parts_shrink y)
-  parts_shrink (g.stated x y) = omega (arith, stmt_shrinks x, parts_shrink y)
+stars_go_on : {n : ℕ} {ts us : List Token} → Stars n ts us → Stop (codes ")") us → Stop (codes ")") ts
+stars_go_on rules.no_star stop = stop
+stars_go_on (rules.star {t = t} is s) stop = marks (codes "*") (codes ")") t is
 
-abbrev list_of : StmtTrees → List StmtTree
-list_of t.NoStmts = []
-list_of (t.MoreStmts s all) = s ∷ list_of all
+type_goes_on : {types : List (List ℕ)} {to : CType} {ts us : List Token} → AType types to ts us → Stop (codes ")") us → Stop (codes ")") (tail ts)
+type_goes_on (rules.a_type (rules.type_name x s) k) stop = words_go_on x (stars_go_on k stop)
 
-stmts_of-list_of : (all : StmtTrees) → stmts_of (list_of all) ≡ all
-stmts_of-list_of t.NoStmts = refl
-stmts_of-list_of (t.MoreStmts s all) = ap (t.MoreStmts s) (stmts_of-list_of all)
+parameter_goes_on : {types : List (List ℕ)} {p : Par} {ts us : List Token} → Parameter types p ts us → Stop (codes ")") (tail ts)
+parameter_goes_on {types} (g.parameter {t = t} ty v) = type_goes_on ty (name_no_mark (codes ")") t (variable_name types t v))
 
--- ---- what statements begin with
+some_goes_on : {types : List (List ℕ)} {all : List Par} {ts us : List Token} → SomeParameters types all ts us → Stop (codes ")") (tail ts)
+some_goes_on (g.last_parameter x c) = parameter_goes_on x
+some_goes_on (g.more_parameters x c y) = parameter_goes_on x
 
-type_starts : {to : CType} {ts us : List Token} → AType to ts us → head_is is_type_word ts ≡ true
-type_starts (g.type_word e s) = e
+module _ (b : Input) (names : AreNames b.types) where
+  type_token : {to : CType} {t : Token} {ts us : List Token} → AType b.types to (t ∷ ts) us → is_type b.types t ≡ true
+  type_token ty = type_first ty
 
-type_no_end : {to : CType} {ts us : List Token} → AType to ts us → Stop (codes "}") ts
-type_no_end (g.type_word {t = u} e s) =
-    no_mark (codes "}") u (ap is_sign_kind (word_only u.kind (and_parts (is_word_kind u.kind) (is_among type_words u.text) e).0))
+  -- ---- types that are declared
 
-declaration_no_end : {s : StmtTree} {ts us : List Token} → Declaration s ts us → Stop (codes "}") ts
-declaration_no_end (g.declare ty n e) = type_no_end ty
+  field_done : {to : CType} {t u : Token} {ts us : List Token} → AType b.types to ts (t ∷ u ∷ us) → MayName t → Is (codes ";") u → length ts < b.turns
+      → field (at b ts) ≡ Ok (record { line = t.span.line; of_type = to; name = t.text }, at b us)
+  unfolding field line a_name sees_name spelling expect sees next
+  field_done {t = t} {u = u} {us = us} ty n is few =
+      rw (type_done b ty (name_no_mark (codes "*") t n) (name_no_join t (u ∷ us) n) few, n, is) refl
 
-declaration_type : {s : StmtTree} {ts us : List Token} → Declaration s ts us → head_is is_type_word ts ≡ true
-declaration_type (g.declare ty n e) = type_starts ty
-
-record StartsStatement (ts : List Token) : Type 0 where
-  no_end : Stop (codes "}") ts
-  no_type : head_is is_type_word ts ≡ false
-
-of_starts : (ts : List Token) → Starts ts → StartsStatement ts
-of_starts ts s = record { no_end = s.no_end; no_type = s.no_type }
-
-key_starts : (word : List ℕ) (n : Token) (ts : List Token) → IsKey word n → is_among type_words word ≡ false → StartsStatement (n ∷ ts)
-key_starts word n ts k other = record { no_end = key_no_mark word (codes "}") n k; no_type = key_type word n k ∙ other }
-
-stmt_starts : {s : StmtTree} {ts us : List Token} → Statement s ts us → StartsStatement ts
-stmt_starts (g.block {t = u} op x) = record { no_end = marks (codes "{") (codes "}") u op; no_type = no_key_by_mark (codes "{") u op (is_among type_words) }
-stmt_starts (g.condition {t = n} k op x cl y) = key_starts (codes "if") n _ k refl
-stmt_starts (g.args {t = n} {u = u} {ts = ts} k e) = key_starts (codes "dXSARGS") n (u ∷ ts) k refl
-stmt_starts (g.return_yes {t = n} {u = u} {ts = ts} k e) = key_starts (codes "XSRETURN_YES") n (u ∷ ts) k refl
-stmt_starts (g.new_xs {a = n} k b c d e f h) = key_starts (codes "newXS_deffile") n _ k refl
-stmt_starts (g.effect {ts = ts} w n x e) = of_starts ts (whole_starts x)
-
-module _ (file : FileOf) (last : ℕ) where
-  abbrev here : List Token → Input
-  here = at file last
-
-  -- a whole expression, of at most so many levels
-  expr_done : (a : ExprTree) (ts us : List Token) → Whole a ts us → height a ≤ max_nesting → StopsWhole us → an_expr (here ts) ≡ Ok (a, here us)
-  unfolding an_expr expr
-  expr_done a ts us x h stop = rw (whole_done file last x (max_nesting - 1) (omega arith) stop) refl
-
-  -- a statement in which no other stands, at any level
-  at_any : (room : ℕ) (ts : List Token) (o : Outcome StmtTree) → Stop (codes "{") ts → head_is (is_key (codes "if")) ts ≡ false → simple (here ts) ≡ o
-      → stmt room (here ts) ≡ o
-  unfolding stmt opens sees sees_key
-  at_any zero ts o b i e = rw (b, i) e
-  at_any (suc room) ts o b i e = rw (b, i) e
-
-  args_done : (n u : Token) (ts : List Token) → IsKey (codes "dXSARGS") n → Is (codes ";") u
-      → simple (here (n ∷ u ∷ ts)) ≡ Ok (t.Perl n.line form.DxsArgs, here ts)
-  unfolding simple sees_word_form word_form line spelling next
-  args_done n u ts k e = rw (k, e, (is_key_of (codes "dXSARGS") n k).1) refl
-
-  return_yes_done : (n u : Token) (ts : List Token) → IsKey (codes "XSRETURN_YES") n → Is (codes ";") u
-      → simple (here (n ∷ u ∷ ts)) ≡ Ok (t.Perl n.line form.XsReturnYes, here ts)
-  unfolding simple sees_word_form word_form line spelling next
-  return_yes_done n u ts k e = rw (key_is (codes "XSRETURN_YES") (codes "dXSARGS") n k, k, e, (is_key_of (codes "XSRETURN_YES") n k).1) refl
-
-  new_xs_done : (a b c d e f z : Token) (ts : List Token) → IsKey (codes "newXS_deffile") a → Is (codes "(") b → is_quoted c ≡ true → Is (codes ",") d
-      → MayName e → Is (codes ")") f → Is (codes ";") z
-      → simple (here (a ∷ b ∷ c ∷ d ∷ e ∷ f ∷ z ∷ ts)) ≡ Ok (t.Perl a.line (form.NewXs c.text e.text), here ts)
-  unfolding simple sees_word_form sees_new_xs new_xs line spelling next
-  new_xs_done a b c d e f z ts k op q cm nm cl sc =
-      rw (key_is (codes "newXS_deffile") (codes "dXSARGS") a k, key_is (codes "newXS_deffile") (codes "XSRETURN_YES") a k, k, op, q, cm, nm, cl, sc) refl
-
-  effect_done : (a : ExprTree) (u : Token) (ts us : List Token) → is_word_form ts ≡ false → is_new_xs ts ≡ false → Whole a ts (u ∷ us) → height a ≤ max_nesting
-      → Is (codes ";") u → simple (here ts) ≡ Ok (t.Effect (line_of a) a, here us)
-  unfolding simple sees_word_form sees_new_xs effect line next expect sees
-  effect_done a u ts us w n x h e = rw (w, n, expr_done a ts (u ∷ us) x h (ends u us e), e, whole_line a ts (u ∷ us) last x) refl
-
-  declaration_done : {s : StmtTree} {ts us : List Token} → Declaration s ts us → declaration (here ts) ≡ Ok (s, here us)
-  unfolding declaration line a_name sees_name spelling next expect sees
-  declaration_done (g.declare {u = u} ty n e) = rw (type_done file last ty (names_no_mark (codes "*") u n), n, e) refl
-
-  abbrev Read : ℕ → StmtTrees → List Token → List Token → Type 0
-  Read room all ts us = (n : ℕ) → length ts ≤ n → (done : List StmtTree) → parts_from (stmt room) n done (here ts) ≡ Ok (done ++ list_of all, here us)
-
-  block_done : (room : ℕ) (body : StmtTrees) (u : Token) (ts us : List Token) → Is (codes "{") u → Read room body ts us
-      → stmt (suc room) (here (u ∷ ts)) ≡ Ok (t.Block u.line body, here us)
-  unfolding stmt block parts sees line next left
-  block_done room body u ts us is r = rw (is, r (suc (length ts)) (omega arith) [], stmts_of-list_of body) refl
-
-  condition_done : (room : ℕ) (test : ExprTree) (s : StmtTree) (k u v : Token) (ts us vs : List Token) → IsKey (codes "if") k → Is (codes "(") u
-      → Whole test ts (v ∷ us) → height test ≤ max_nesting → Is (codes ")") v → stmt room (here us) ≡ Ok (s, here vs)
-      → stmt (suc room) (here (k ∷ u ∷ ts)) ≡ Ok (t.If k.line test s, here vs)
-  unfolding stmt condition sees sees_key line next expect
-  condition_done room test s k u v ts us vs key op x h cl r =
-      rw (key_no_mark (codes "if") (codes "{") k key, key, op, expr_done test ts (v ∷ us) x h (closes v us cl), cl, r) refl
-
-  over_done : (room : ℕ) (u : Token) (ts : List Token) → Is (codes "}") u → Read room t.NoStmts (u ∷ ts) ts
-  unfolding parts_from after sees next
-  over_done room u ts is zero len done = absurd (omega arith)
-  over_done room u ts is (suc n) len done = rw (is, append-nil done) refl
-
-  part_done : (room : ℕ) (s : StmtTree) (all : StmtTrees) (ts us vs : List Token) → Stop (codes "}") ts → part (stmt room) (here ts) ≡ Ok (s, here us)
-      → length us < length ts → Read room all us vs → Read room (t.MoreStmts s all) ts vs
-  unfolding parts_from after sees
-  part_done room s all ts us vs stop r less more zero len done = absurd (omega arith)
-  part_done room s all ts us vs stop r less more (suc n) len done =
-      rw (stop, r) (more n (omega arith) (done ++ s ∷ []) ∙ rw (append_assoc done (s ∷ []) (list_of all)) refl)
-
-  part_declared : (room : ℕ) (s : StmtTree) (ts us : List Token) → Declaration s ts us → part (stmt room) (here ts) ≡ Ok (s, here us)
-  unfolding part sees_type
-  part_declared room s ts us x = rw (declaration_type x) (declaration_done x)
-
-  part_stated : (room : ℕ) (s : StmtTree) (ts us : List Token) → head_is is_type_word ts ≡ false → stmt room (here ts) ≡ Ok (s, here us)
-      → part (stmt room) (here ts) ≡ Ok (s, here us)
-  unfolding part sees_type
-  part_stated room s ts us e r = rw e r
-
-  mutual
-    stmt_done : {s : StmtTree} {ts us : List Token} → Statement s ts us → (room : ℕ) → depth s ≤ room → tallest s ≤ max_nesting
-        → stmt room (here ts) ≡ Ok (s, here us)
-    stmt_done (g.block op x) zero h l = absurd (omega arith)
-    stmt_done (g.block {body = body} {t = u} {ts = ts} {us = us} op x) (suc room) h l = block_done room body u ts us op (parts_done x room (omega arith) l)
-    stmt_done (g.condition k op x cl y) zero h l = absurd (omega arith)
-    stmt_done (g.condition {test = test} {s = s} {t = k} {u = u} {v = v} {ts = ts} {us = us} {vs = vs} key op x cl y) (suc room) h l =
-        condition_done room test s k u v ts us vs key op x (omega arith) cl (stmt_done y room (omega arith) (omega arith))
-    stmt_done (g.args {t = n} {u = u} {ts = ts} k e) room h l =
-        at_any room (n ∷ u ∷ ts) _ (key_no_mark (codes "dXSARGS") (codes "{") n k) (key_is (codes "dXSARGS") (codes "if") n k) (args_done n u ts k e)
-    stmt_done (g.return_yes {t = n} {u = u} {ts = ts} k e) room h l =
-        at_any room (n ∷ u ∷ ts) _ (key_no_mark (codes "XSRETURN_YES") (codes "{") n k) (key_is (codes "XSRETURN_YES") (codes "if") n k)
-        (return_yes_done n u ts k e)
-    stmt_done (g.new_xs {a = a} {b = b} {c = c} {d = d} {e = e} {f = f} {g = z} {ts = ts} k op q cm nm cl sc) room h l =
-        at_any room (a ∷ b ∷ c ∷ d ∷ e ∷ f ∷ z ∷ ts) _ (key_no_mark (codes "newXS_deffile") (codes "{") a k) (key_is (codes "newXS_deffile") (codes "if") a k)
-        (new_xs_done a b c d e f z ts k op q cm nm cl sc)
-    stmt_done (g.effect {a = a} {u = u} {ts = ts} {us = us} w n x e) room h l =
-        let s = whole_starts x in
-        at_any room ts _ s.no_block s.no_if (effect_done a u ts us w n x l e)
-
-    parts_done : {all : StmtTrees} {ts us : List Token} → Parts all ts us → (room : ℕ) → depths all ≤ room → tallest_of all ≤ max_nesting → Read room all ts us
-    parts_done (g.over {u = u} {ts = ts} is) room h l = over_done room u ts is
-    parts_done (g.declared {s = s} {all = all} {ts = ts} {us = us} {vs = vs} x y) room h l =
-        part_done room s all ts us vs (declaration_no_end x) (part_declared room s ts us x) (declaration_shrinks x)
-        (parts_done y room (omega arith) (omega arith))
-    parts_done (g.stated {s = s} {all = all} {ts = ts} {us = us} {vs = vs} x y) room h l =
-        let b = stmt_starts x in
-        part_done room s all ts us vs b.no_end (part_stated room s ts us b.no_type (stmt_done x room (omega arith) (omega arith))) (stmt_shrinks x)
-        (parts_done y room (omega arith) (omega arith))
-
-  function_done : (body : StmtTrees) (t1 t2 t3 t4 t5 : Token) (ts us : List Token) → IsKey (codes "XS") t1 → Is (codes "(") t2 → MayName t3 → Is (codes ")") t4
-      → Is (codes "{") t5 → begins_body ts ≡ true → Read (max_nesting - 1) body ts us
-      → function (here (t1 ∷ t2 ∷ t3 ∷ t4 ∷ t5 ∷ ts)) ≡ Ok (record { line = t1.line; name = t3.text; body = body }, here us)
-  unfolding function line expect_key sees_key next expect sees a_name sees_name spelling body_begins parts left
-  function_done body t1 t2 t3 t4 t5 [] us k o n c b d r = absurd cc
-  function_done body t1 t2 t3 t4 t5 (t6 ∷ []) us k o n c b d r = absurd cc
-  function_done body t1 t2 t3 t4 t5 (t6 ∷ t7 ∷ ts) us k o n c b d r =
-      let begins = and_parts (is_key (codes "dXSARGS") t6) (is_sign (codes ";") t7) d in
-      rw (k, o, n, c, b, begins.0, begins.1, r (suc (length (t6 ∷ t7 ∷ ts))) (omega arith) [], stmts_of-list_of body) refl
-
-  items_none : (n : ℕ) (done : List ItemTree) → items_from n done (here []) ≡ Ok (done, here [])
-  unfolding items_from left
-  items_none zero done = refl
-  items_none (suc n) done = refl
-
-  items_more : (n : ℕ) (done : List ItemTree) (f : FunctionTree) (u : Token) (ts us : List Token) → function (here (u ∷ ts)) ≡ Ok (f, here us)
-      → items_from (suc n) done (here (u ∷ ts)) ≡ items_from n (done ++ XsFunction f ∷ []) (here us)
-  unfolding items_from left
-  items_more n done f u ts us r = rw (not_nought (length ts), r) refl
+  fields_done : {all : List Par} {ts us : List Token} → Fields b.types all ts us → length ts < b.turns → (n : ℕ) → length ts ≤ n → (sofar : List Par)
+      → fields_from n sofar (at b ts) ≡ Ok (sofar ++ all, at b us)
+  unfolding fields_from sees after next
+  fields_done (g.fields_over is) few zero len sofar = absurd (omega (arith, len))
+  fields_done (g.fields_over is) few (suc n) len sofar = rw (is, append-nil sofar) refl
+  fields_done (g.field ty m is x) few zero len sofar = absurd (omega (arith, len, type_shrinks ty))
+  fields_done (g.field {to = to} {all = all} {t = t} {u = u} {ts = ts} {us = us} {vs = vs} ty m is x) few (suc n) len sofar =
+      let one : Par = record { line = t.span.line; of_type = to; name = t.text } in
+      rw (type_no_end ts ty, field_done ty m is few)
+      (fields_done x (omega (arith, few, type_shrinks ty)) n (omega (arith, len, type_shrinks ty)) (sofar ++ one ∷ [])
+      ∙ rw (append_assoc sofar (one ∷ []) all) refl)
     where
-      not_nought : (m : ℕ) → (suc m == 0) ≡ false
-      not_nought m = grind arith
+      type_no_end : {to : CType} {us : List Token} (ts : List Token) → AType b.types to ts us → Stop (codes "}") ts
+      type_no_end [] ty = absurd (no_type ty)
+        where
+          no_type : {to : CType} {us : List Token} → AType b.types to [] us → ⊥
+          no_type ty = elim ty [ ]
+      type_no_end (t ∷ ts) ty = type_no_mark b.types (codes "}") t (type_first ty)
 
-  items_done : {all : List ItemTree} {ts : List Token} → File all ts → AreWithin all → (n : ℕ) → length ts ≤ n → (done : List ItemTree)
-      → items_from n done (here ts) ≡ Ok (done ++ all, here [])
-  items_done g.nothing w n len done = items_none n done ∙ rw (append-nil done) refl
-  items_done (g.function k o nm c b d x rest) w zero len done = absurd (omega arith)
-  items_done (g.function {body = body} {all = all} {t = t1} {u = t2} {v = t3} {w = t4} {x = t5} {ts = ts} {us = us} k o nm c b d x rest) w (suc n) len done =
-      let f : FunctionTree = record { line = t1.line; name = t3.text; body = body } in
-      items_more n done f t1 (t2 ∷ t3 ∷ t4 ∷ t5 ∷ ts) us
-      (function_done body t1 t2 t3 t4 t5 ts us k o nm c b d (parts_done x (max_nesting - 1) (omega (arith, w.0)) w.1))
-      ∙ items_done rest w.2 n (omega (arith, parts_shrink x)) (done ++ XsFunction f ∷ [])
-      ∙ rw (append_assoc done (XsFunction f ∷ []) all) refl
+  all_fields_done : {all : List Par} {ts us : List Token} → Fields b.types all ts us → length ts < b.turns → fields (at b ts) ≡ Ok (all, at b us)
+  unfolding fields
+  all_fields_done x few = fields_done x few b.turns (omega (arith, few)) []
 
-pub file_complete : (kind : FileOf) (bytes : List ℕ) (all : List ItemTree) → IsTextOf kind bytes all → AreWithin all
-    → file_of kind bytes ≡ Ok (record { model = model.Lp64; items = all })
-unfolding file_of tree_of items left
-file_complete kind bytes all x w = rw (x.cut, items_done kind (early_end bytes) x.stands w (length x.all) (omega arith) []) refl
+  -- ---- parameters
 
--- What is a file by the rules, and not too deep, is read as that file.
-pub read_complete : (r : Result CFile Refuse) (kind : FileOf) (bytes : List ℕ) → GivesBy file_tree r (file_of kind bytes) → (all : List ItemTree)
-    → IsTextOf kind bytes all → AreWithin all → GivesBy file_tree r (Ok (record { model = model.Lp64; items = all }))
-read_complete r kind bytes e all x w = rw (← file_complete kind bytes all x w) e
+  parameter_done : {p : Par} {ts us : List Token} → Parameter b.types p ts us → length ts < b.turns → parameter (at b ts) ≡ Ok (p, at b us)
+  unfolding parameter line a_variable sees_variable spelling next
+  parameter_done (g.parameter {t = t} {ts = ts} {us = us} ty v) few =
+      let n = variable_name b.types t v in
+      rw (type_done b ty (name_no_mark (codes "*") t n) (name_no_join t us n) few, v) refl
+
+  parameter_last : (n : ℕ) (sofar : List Par) (p : Par) (t : Token) (ts us : List Token) → parameter (at b ts) ≡ Ok (p, at b (t ∷ us)) → Is (codes ")") t
+      → parameters_from (suc n) sofar (at b ts) ≡ Ok (sofar ++ p ∷ [], at b us)
+  unfolding parameters_from sees after next expect
+  parameter_last n sofar p t ts us r c = rw (r, marks (codes ")") (codes ",") t c, c) refl
+
+  parameter_more : (n : ℕ) (sofar : List Par) (p : Par) (t : Token) (ts us : List Token) → parameter (at b ts) ≡ Ok (p, at b (t ∷ us)) → Is (codes ",") t
+      → parameters_from (suc n) sofar (at b ts) ≡ parameters_from n (sofar ++ p ∷ []) (at b us)
+  unfolding parameters_from sees after next
+  parameter_more n sofar p t ts us r c = rw (r, c) refl
+
+  some_done : {all : List Par} {ts us : List Token} → SomeParameters b.types all ts us → length ts < b.turns → (n : ℕ) → length ts ≤ n → (sofar : List Par)
+      → parameters_from n sofar (at b ts) ≡ Ok (sofar ++ all, at b us)
+  some_done (g.last_parameter x c) few zero len sofar = absurd (omega (arith, len, parameter_shrinks x))
+  some_done (g.last_parameter {p = p} {t = t} {ts = ts} {us = us} x c) few (suc n) len sofar =
+      parameter_last n sofar p t ts us (parameter_done x few) c
+  some_done (g.more_parameters x c y) few zero len sofar = absurd (omega (arith, len, parameter_shrinks x))
+  some_done (g.more_parameters {p = p} {all = all} {t = t} {ts = ts} {us = us} x c y) few (suc n) len sofar =
+      parameter_more n sofar p t ts us (parameter_done x few) c
+      ∙ (some_done y (omega (arith, few, parameter_shrinks x)) n (omega (arith, len, parameter_shrinks x)) (sofar ++ p ∷ [])
+      ∙ rw (append_assoc sofar (p ∷ []) all) refl)
+
+  -- what a list of parameters begins with
+  parameter_token : {p : Par} {ts us : List Token} → Parameter b.types p ts us → (t : Token) (rest : List Token) → ts ≡ t ∷ rest → is_type b.types t ≡ true
+  parameter_token (g.parameter ty v) t rest e = by ty e
+    where
+      by : {to : CType} {ts us : List Token} → AType b.types to ts us → ts ≡ t ∷ rest → is_type b.types t ≡ true
+      by ty e = let x = type_first ty in ap (head_is (is_type b.types)) (sym e) ∙ x
+
+  some_token : {all : List Par} {ts us : List Token} → SomeParameters b.types all ts us → (t : Token) (rest : List Token) → ts ≡ t ∷ rest
+      → is_type b.types t ≡ true
+  some_token (g.last_parameter x c) t rest e = parameter_token x t rest e
+  some_token (g.more_parameters x c y) t rest e = parameter_token x t rest e
+
+  no_none : (ts us : List Token) (all : List Par) → (sees_word (codes "void") (at b ts) && sees (codes ")") (next (at b ts))) ≡ false → Stop (codes ")") ts
+      → parameters_from b.turns [] (at b ts) ≡ Ok (all, at b us) → parameters (at b ts) ≡ Ok (all, at b us)
+  unfolding parameters sees_none some_parameters sees after
+  no_none ts us all isnt stop r = rw (isnt, stop) r
+
+  parameters_done : {all : List Par} {ts us : List Token} → Parameters b.types all ts us → length ts < b.turns → parameters (at b ts) ≡ Ok (all, at b us)
+  unfolding parameters sees_none sees_word sees after next
+  parameters_done (g.no_parameters {t = t} c) few = rw (mark_no_word (codes ")") (codes "void") t c, c) refl
+  parameters_done (g.void_parameters {t = t} {u = u} w c) few = rw (w, c) refl
+  parameters_done (g.some_parameters {all = all} {ts = ts} {us = us} x) few =
+      no_none ts us all (void_is_no_end ts x) (no_close ts x) (some_done x few b.turns (omega (arith, few)) [])
+    where
+      no_close : {all : List Par} {us : List Token} (ts : List Token) → SomeParameters b.types all ts us → Stop (codes ")") ts
+      no_close [] x = refl
+      no_close (t ∷ ts) x = type_no_mark b.types (codes ")") t (some_token x t ts refl)
+
+      void_is_no_end : {all : List Par} {us : List Token} (ts : List Token) → SomeParameters b.types all ts us
+          → (head_is (is_word (codes "void")) ts && head_is (is_sign (codes ")")) (tail ts)) ≡ false
+      void_is_no_end ts x = and_right (head_is (is_word (codes "void")) ts) (head_is (is_sign (codes ")")) (tail ts)) (some_goes_on x)
+
+  head_done : {h : Head} {ts us : List Token} → AHead b.types h ts us → length ts < b.turns → head (line (at b ts)) (at b ts) ≡ Ok (h, at b us)
+  unfolding head line a_name sees_name spelling expect sees next
+  head_done (g.a_head {t = t} {u = u} {v = v} {ts = ts} {us = us} ty n o x) few =
+      rw (
+        type_done b ty (name_no_mark (codes "*") u n) (name_no_join u (v ∷ us) n) few,
+        n,
+        o,
+        parameters_done x (omega (arith, few, type_shrinks ty)),
+      ) refl
+
+  -- ---- items
+
+  typedef_done : (t u v : Token) (ts us : List Token) (to : CType) → IsWord (codes "typedef") t → AType b.types to ts (u ∷ v ∷ us) → MayName u
+      → Is (codes ";") v → length ts < b.turns
+      → item (at b (t ∷ ts))
+      ≡ Ok (tree.TypedefItem (record { line = t.span.line; of_type = to; name = u.text; name_line = u.span.line }), at b us)
+  unfolding item named_type a_typedef line sees_word a_name sees_name spelling expect sees next
+  typedef_done t u v ts us to w ty n is few =
+      rw (w, no_struct ts ty, type_done b ty (name_no_mark (codes "*") u n) (name_no_join u (v ∷ us) n) few, n, is) refl
+    where
+      no_struct : {to : CType} {us : List Token} (ts : List Token) → AType b.types to ts us → head_is (is_word (codes "struct")) ts ≡ false
+      no_struct [] ty = refl
+      no_struct (t ∷ ts) ty = type_no_word b.types names (codes "struct") t (type_first ty) grammar_word.0 no_type_word.0
+
+  record_done : (t u v w x : Token) (ts us : List Token) (all : List Par) → IsWord (codes "typedef") t → IsWord (codes "struct") u → Is (codes "{") v
+      → Fields b.types all ts (w ∷ x ∷ us) → MayName w → Is (codes ";") x → length ts < b.turns
+      → item (at b (t ∷ u ∷ v ∷ ts))
+      ≡ Ok (tree.RecordItem (record { line = t.span.line; fields = all; name = w.text; name_line = w.span.line }), at b us)
+  unfolding item named_type a_record line sees_word a_name sees_name spelling expect sees next
+  record_done t u v w x ts us all k l o f n is few = rw (k, l, o, all_fields_done f few, n, is) refl
+
+  body_done : {all : StmtTrees} {ts us : List Token} → Parts b.types all ts us → depths all + 1 ≤ max_nesting → tallest_of all ≤ max_nesting
+      → length ts < b.turns → body (at b ts) ≡ Ok (list_of all, at b us)
+  unfolding body parts
+  body_done x h l few = parts_done b names x (max_nesting - 1) (omega (arith, h)) l few b.turns (omega (arith, few)) []
+
+  begins_done : (ts : List Token) → begins_body ts ≡ true → body_begins (at b ts) ≡ Ok (tt, at b ts)
+  unfolding body_begins expect_word sees_word expect sees next
+  begins_done [] e = absurd cc
+  begins_done (t ∷ []) e = absurd cc
+  begins_done (t ∷ u ∷ ts) e = let p = and_parts (is_word (codes "dXSARGS") t) (is_sign (codes ";") u) e in rw (p.0, p.1) refl
+
+  xs_function_done : (t u v w x : Token) (ts us : List Token) (all : StmtTrees) → IsWord (codes "XS") t → Is (codes "(") u → MayName v → Is (codes ")") w
+      → Is (codes "{") x → begins_body ts ≡ true → Parts b.types all ts us → depths all + 1 ≤ max_nesting → tallest_of all ≤ max_nesting
+      → length ts < b.turns
+      → item (at b (t ∷ u ∷ v ∷ w ∷ x ∷ ts)) ≡ Ok (tree.XsFunItem (record { line = t.span.line; name = v.text; body = all }), at b us)
+  unfolding item xs_function line sees_word a_name sees_name spelling expect sees next
+  xs_function_done t u v w x ts us all k o n c d begins y h l few =
+      rw (
+        words (codes "XS") (codes "typedef") t k,
+        k,
+        o,
+        n,
+        c,
+        d,
+        begins_done ts begins,
+        body_done y h l few,
+        stmts_of-list_of all,
+      ) refl
+
+  -- an item that begins with a type
+  typed_item : (ts : List Token) → head_is (is_type b.types) ts ≡ true → item (at b ts) ≡ function (line (at b ts)) (at b ts)
+  unfolding item sees_word
+  typed_item [] is = absurd cc
+  typed_item (t ∷ ts) is =
+      rw (
+        type_no_word b.types names (codes "typedef") t is grammar_word.1 no_type_word.1,
+        type_no_word b.types names (codes "XS") t is grammar_word.2 no_type_word.2,
+      ) refl
+
+  head_token : {h : Head} {ts us : List Token} → AHead b.types h ts us → head_is (is_type b.types) ts ≡ true
+  head_token (g.a_head ty n o x) = type_first ty
+
+  prototype_done : (h : Head) (t : Token) (ts us : List Token) → AHead b.types h ts (t ∷ us) → Is (codes ";") t → length ts < b.turns
+      → function (line (at b ts)) (at b ts) ≡ Ok (tree.PrototypeItem h, at b us)
+  unfolding function sees after next
+  prototype_done h t ts us x is few = rw (head_done x few, is) refl
+
+  function_done : (h : Head) (t : Token) (ts us vs : List Token) (all : StmtTrees) → AHead b.types h ts (t ∷ us) → Is (codes "{") t → Parts b.types all us vs
+      → depths all + 1 ≤ max_nesting → tallest_of all ≤ max_nesting → length ts < b.turns
+      → function (line (at b ts)) (at b ts) ≡ Ok (tree.FunctionItem (record { head = h; body = all }), at b vs)
+  unfolding function sees after next expect
+  function_done h t ts us vs all x o y d l few =
+      rw (
+        head_done x few,
+        marks (codes "{") (codes ";") t o,
+        o,
+        body_done y d l (omega (arith, few, head_shrinks x)),
+        stmts_of-list_of all,
+      ) refl
+
+  item_done : {one : ItemTree} {ts us : List Token} → Item b.types one ts us → FitsItem one → length ts < b.turns → item (at b ts) ≡ Ok (one, at b us)
+  item_done (g.a_typedef {to = to} {t = t} {u = u} {v = v} {ts = ts} {us = us} w ty n is) fit few =
+      typedef_done t u v ts us to w ty n is (omega (arith, few))
+  item_done (g.a_record {all = all} {t = t} {u = u} {v = v} {w = w} {x = x} {ts = ts} {us = us} k l o f n is) fit few =
+      record_done t u v w x ts us all k l o f n is (omega (arith, few))
+  item_done (g.prototype {head = h} {t = t} {ts = ts} {us = us} x is) fit few = typed_item ts (head_token x) ∙ prototype_done h t ts us x is few
+  item_done (g.function {head = h} {body = all} {t = t} {ts = ts} {us = us} {vs = vs} x o y) fit few =
+      typed_item ts (head_token x) ∙ function_done h t ts us vs all x o y fit.0 fit.1 few
+  item_done (g.xs_function {body = all} {t = t} {u = u} {v = v} {w = w} {x = x} {ts = ts} {us = us} k o n c d begins y) fit few =
+      xs_function_done t u v w x ts us all k o n c d begins y fit.0 fit.1 (omega (arith, few))
+
+-- ---- names of types
+
+one_name_more : (types : List (List ℕ)) (name : List ℕ) → AreNames types → is_no_name name ≡ false → AreNames (types ++ name ∷ [])
+one_name_more [] name names isnt = (isnt, tt)
+one_name_more (first ∷ more) name names isnt = (names.0, one_name_more more name names.1 isnt)
+
+with_one : (types : List (List ℕ)) (name : List ℕ) → AreNames types → is_no_name name ≡ false → AreNames (with_name types (Some name))
+with_one types name names isnt = by (is_among types name)
+  where
+    by : (c : Bool) → AreNames (if c then types else types ++ name ∷ [])
+    by true = names
+    by false = one_name_more types name names isnt
+
+name_is_one : (t : Token) → MayName t → is_no_name t.text ≡ false
+name_is_one t n = not-true (is_no_name t.text) (and_parts (is_word_kind t.kind) (not (is_no_name t.text)) n).1
+
+names_after : {types : List (List ℕ)} {one : ItemTree} {ts us : List Token} → Item types one ts us → AreNames types
+    → AreNames (with_name types (type_of_item one))
+names_after {types} (g.a_typedef {u = u} w ty n is) names = with_one types u.text names (name_is_one u n)
+names_after {types} (g.a_record {w = w} k l o f n is) names = with_one types w.text names (name_is_one w n)
+names_after (g.prototype x is) names = names
+names_after (g.function x o y) names = names
+names_after (g.xs_function k o n c d begins y) names = names
+
+-- ---- files
+
+item_step : (n : ℕ) (b : Input) (sofar : List ItemTree) (one : ItemTree) (ts us : List Token) → item (at b ts) ≡ Ok (one, at b us) → length us < length ts
+    → items_from (suc n) sofar (at b ts) ≡ items_from n (sofar ++ one ∷ []) (at (with_types_of one b) us)
+unfolding items_from at_end
+item_step n b sofar one [] us r less = absurd (omega (arith, less))
+item_step n b sofar one (t ∷ ts) us r less = rw r refl
+
+items_end : (n : ℕ) (b : Input) (sofar : List ItemTree) → items_from (suc n) sofar (at b []) ≡ Ok (sofar ++ [], at b [])
+unfolding items_from at_end
+items_end n b sofar = rw (append-nil sofar) refl
+
+-- the items that were read, and some input after them
+record ItemsRead (b : Input) (n : ℕ) (sofar all : List ItemTree) (ts : List Token) : Type 0 where
+  ends : Input
+  is : items_from n sofar (at b ts) ≡ Ok (sofar ++ all, ends)
+
+items_done : {types : List (List ℕ)} {all : List ItemTree} {ts : List Token} → File types all ts → (b : Input) → b.types ≡ types → AreNames types
+    → FitItems all → length ts < b.turns → (n : ℕ) → length ts < n → (sofar : List ItemTree) → ItemsRead b n sofar all ts
+items_done g.file_over b e names fit few zero len sofar = absurd (omega (arith, len))
+items_done g.file_over b e names fit few (suc n) len sofar = record { ends = at b []; is = items_end n b sofar }
+items_done (g.item x y) b e names fit few zero len sofar = absurd (omega (arith, len))
+items_done (g.item {types = types} {one = one} {all = all} {ts = ts} {us = us} x y) b e names fit few (suc n) len sofar =
+    let there : Item b.types one ts us = rw e x in
+    let own : AreNames b.types = rw e names in
+    let m = items_done y (with_types_of one b) (ap (λ known. with_name known (type_of_item one)) e) (names_after x names) fit.1
+    (omega (arith, few, item_shrinks x)) n (omega (arith, len, item_shrinks x)) (sofar ++ one ∷ []) in
+    record {
+      ends = m.ends;
+      is = item_step n b sofar one ts us (item_done b own there fit.0 few) (item_shrinks x) ∙ (m.is ∙ rw (append_assoc sofar (one ∷ []) all) refl);
+    }
+
+kept_shrinks : (whole pair : Bool) (ts : List Token) → length (kept_from whole pair ts) ≤ length ts
+kept_shrinks whole pair [] = omega arith
+kept_shrinks whole true (t ∷ ts) = omega (arith, kept_shrinks whole false ts)
+kept_shrinks whole false (t ∷ ts) = by (is_passed whole t) (is_passed_pair t ts) (kept_shrinks whole false ts) (kept_shrinks whole true ts)
+  where
+    by : (c d : Bool) → length (kept_from whole false ts) ≤ length ts → length (kept_from whole true ts) ≤ length ts
+        → length (if c then kept_from whole false ts else (if d then kept_from whole true ts else t ∷ kept_from whole false ts)) ≤ suc (length ts)
+    by true d x y = omega (arith, x)
+    by false true x y = omega (arith, y)
+    by false false x y = omega (arith, x)
+
+items_of_done : (i : Input) (ts : List Token) (all : List ItemTree) → i ≡ at i ts → (m : ItemsRead i i.turns [] all ts) → items_of i ≡ Ok all
+items_of_done i ts all e m = rw (ap (items_from i.turns []) e ∙ m.is) refl
+
+pub file_complete : (file : FileOf) (last : ℕ) (ts : List Token) (f : FileTree) → IsFile f ts → FitItems f.items → file_of file last ts ≡ Ok f
+unfolding file_of
+file_complete file last ts f x fit =
+    let i : Input = start true ts [] file last in
+    let few : length (kept true ts) < i.turns = omega (arith, kept_shrinks true false ts) in
+    let m = items_done x.stands i refl tt fit few i.turns few [] in
+    rw (items_of_done i (kept true ts) f.items refl m, ← x.defines, ← x.of_model) refl
+
+pub file_unique : (ts : List Token) (f h : FileTree) → IsFile f ts → FitItems f.items → IsFile h ts → FitItems h.items → f ≡ h
+file_unique ts f h x fx y fy = same f h (sym (file_complete which.Xs 0 ts f x fx) ∙ file_complete which.Xs 0 ts h y fy)
+  where
+    same : (f h : FileTree) → ◌≡◌ {A = Result FileTree Fault} (Ok f) (Ok h) → f ≡ h
+    same f h e = cc
+
+-- ---- pieces
+
+rest_end : (b : Input) (room n : ℕ) (sofar : List StmtTree) → rest_from (stmt room) (suc n) sofar (at b []) ≡ Ok (sofar ++ [], at b [])
+unfolding rest_from at_end
+rest_end b room n sofar = rw (append-nil sofar) refl
+
+rest_step : (b : Input) (room n : ℕ) (sofar : List StmtTree) (one : StmtTree) (ts us : List Token) → part (stmt room) (at b ts) ≡ Ok (one, at b us)
+    → length us < length ts → rest_from (stmt room) (suc n) sofar (at b ts) ≡ rest_from (stmt room) n (sofar ++ one ∷ []) (at b us)
+unfolding rest_from at_end
+rest_step b room n sofar one [] us r less = absurd (omega (arith, less))
+rest_step b room n sofar one (t ∷ ts) us r less = rw r refl
+
+rest_done : (b : Input) (names : AreNames b.types) (room : ℕ) {all : StmtTrees} {ts : List Token} → Rest b.types all ts → depths all ≤ room
+    → tallest_of all ≤ max_nesting → length ts < b.turns → (n : ℕ) → length ts < n → (sofar : List StmtTree)
+    → rest_from (stmt room) n sofar (at b ts) ≡ Ok (sofar ++ list_of all, at b [])
+rest_done b names room s.rest_over h l few zero len sofar = absurd (omega (arith, len))
+rest_done b names room s.rest_over h l few (suc n) len sofar = rest_end b room n sofar
+rest_done b names room (s.rest_part x y) h l few zero len sofar = absurd (omega (arith, len))
+rest_done b names room (s.rest_part {s = one} {all = all} {ts = ts} {us = us} x y) h l few (suc n) len sofar =
+    rest_step b room n sofar one ts us (part_done b names x room (omega (arith, h)) (omega (arith, l)) few) (part_shrinks x)
+    ∙ (rest_done b names room y (omega (arith, h)) (omega (arith, l)) (omega (arith, few, part_shrinks x)) n (omega (arith, len, part_shrinks x))
+    (sofar ++ one ∷ []) ∙ rw (append_assoc sofar (one ∷ []) (list_of all)) refl)
+
+list_of-stmts_of : (all : List StmtTree) → list_of (stmts_of all) ≡ all
+list_of-stmts_of [] = refl
+list_of-stmts_of (one ∷ all) = ap (λ more. one ∷ more) (list_of-stmts_of all)
+
+pub block_complete : (file : FileOf) (last : ℕ) (types : List (List ℕ)) (around : ℕ) (ts : List Token) (all : List StmtTree) → AreNames types
+    → Rest types (stmts_of all) (kept false ts) → Fit (max_nesting - around) (stmts_of all) → block_of file last types around ts ≡ Ok all
+unfolding block_of
+block_complete file last types around ts all names x fit =
+    let i : Input = start false ts types file last in
+    let few : length (kept false ts) < i.turns = omega (arith, kept_shrinks false false ts) in
+    rw (rest_done i names (max_nesting - around) x fit.0 fit.1 few i.turns few [], list_of-stmts_of all) refl
+
+pub expr_complete : (file : FileOf) (last : ℕ) (types : List (List ℕ)) (around : ℕ) (ts : List Token) (a : ExprTree) → AreNames types
+    → Whole types a (kept false ts) [] → height a ≤ max_nesting - around → expr_of file last types around ts ≡ Ok a
+unfolding expr_of at_end
+expr_complete file last types around ts a names x h =
+    let i : Input = start false ts types file last in
+    let few : length (kept false ts) < i.turns = omega (arith, kept_shrinks false false ts) in
+    rw (whole_read i names x (max_nesting - around) h few the_end) refl
+
+pub expr_unique : (types : List (List ℕ)) (ts : List Token) (a c : ExprTree) → AreNames types → Whole types a ts [] → Whole types c ts [] → a ≡ c
+expr_unique types ts a c names x y =
+    let i : Input = record { rest = ts; types = types; file = which.Xs; last = 0; turns = suc (length ts) } in
+    let few : length ts < i.turns = omega arith in
+    let room : ℕ = max (height a) (height c) in
+    same i a c (sym (whole_read i names x room (omega arith) few the_end) ∙ whole_read i names y room (omega arith) few the_end)
+  where
+    same : (i : Input) (a c : ExprTree) → ◌≡◌ {A = Outcome Found} (Ok (found_of a, at i [])) (Ok (found_of c, at i [])) → a ≡ c
+    same i a c e = ap (λ (f : Found). f.tree) (same_outcome {E = Fault} (found_of a) (found_of c) (at i []) (at i []) e).0
+
+arguments_shrink : {types : List (List ℕ)} {all : List ExprTree} {ts us : List Token} → ArgumentList types all ts us → length us < length ts
+arguments_shrink (s.last_argument x) = whole_shrinks x
+arguments_shrink (s.more_arguments x c y) = omega (arith, whole_shrinks x, arguments_shrink y)
+
+argument_last : (b : Input) (room n : ℕ) (sofar : List ExprTree) (a : ExprTree) (ts us : List Token)
+    → expr room level.Whole (at b ts) ≡ Ok (found_of a, at b us) → Stop (codes ",") us → args_from room (suc n) sofar (at b ts) ≡ Ok (sofar ++ a ∷ [], at b us)
+unfolding args_from sees after
+argument_last b room n sofar a ts us r stop = rw (r, stop) refl
+
+argument_more : (b : Input) (room n : ℕ) (sofar : List ExprTree) (a : ExprTree) (t : Token) (ts us : List Token)
+    → expr room level.Whole (at b ts) ≡ Ok (found_of a, at b (t ∷ us)) → Is (codes ",") t
+    → args_from room (suc n) sofar (at b ts) ≡ args_from room n (sofar ++ a ∷ []) (at b us)
+unfolding args_from sees after next
+argument_more b room n sofar a t ts us r c = rw (r, c) refl
+
+arguments_done : (b : Input) (names : AreNames b.types) (room : ℕ) {all : List ExprTree} {ts us : List Token} → ArgumentList b.types all ts us
+    → heights (exprs_of all) ≤ room → Ends us → Stop (codes ",") us → length ts < b.turns → (n : ℕ) → length ts ≤ n → (sofar : List ExprTree)
+    → args_from room n sofar (at b ts) ≡ Ok (sofar ++ all, at b us)
+arguments_done b names room (s.last_argument x) h ends stop few zero len sofar = absurd (omega (arith, len, whole_shrinks x))
+arguments_done b names room (s.last_argument {a = a} {ts = ts} {us = us} x) h ends stop few (suc n) len sofar =
+    argument_last b room n sofar a ts us (whole_read b names x room (omega (arith, h)) few ends) stop
+arguments_done b names room (s.more_arguments x c y) h ends stop few zero len sofar = absurd (omega (arith, len, whole_shrinks x))
+arguments_done b names room (s.more_arguments {a = a} {all = all} {t = t} {ts = ts} {us = us} x c y) h ends stop few (suc n) len sofar =
+    argument_more b room n sofar a t ts us (whole_read b names x room (omega (arith, h)) few (comma t us c)) c
+    ∙ (arguments_done b names room y (omega (arith, h)) ends stop (omega (arith, few, whole_shrinks x)) n (omega (arith, len, whole_shrinks x))
+    (sofar ++ a ∷ []) ∙ rw (append_assoc sofar (a ∷ []) all) refl)
+
+abbrev given : List ExprTree → Result (List ExprTree) Fault
+given all = Ok all
+
+args_at : (i : Input) (names : AreNames i.types) (room : ℕ) {all : List ExprTree} {ts : List Token} → AllArguments i.types all ts
+    → heights (exprs_of all) ≤ room → length ts < i.turns → (if at_end (at i ts) then given [] else whole_of (some_args room (at i ts))) ≡ Ok all
+unfolding at_end some_args
+args_at i names room s.no_arguments h few = refl
+args_at i names room (s.arguments {all = all} {ts = ts} x) h few =
+    rw (some_tokens ts (omega (arith, arguments_shrink x)), arguments_done i names room x h the_end refl few i.turns (omega (arith, few)) []) refl
+  where
+    some_tokens : (ts : List Token) → 0 < length ts → is_empty ts ≡ false
+    some_tokens [] some = absurd (omega (arith, some))
+    some_tokens (t ∷ ts) some = refl
+
+pub args_complete : (file : FileOf) (last : ℕ) (types : List (List ℕ)) (around : ℕ) (ts : List Token) (all : List ExprTree) → AreNames types
+    → AllArguments types all (kept false ts) → heights (exprs_of all) ≤ max_nesting - around → args_of file last types around ts ≡ Ok all
+unfolding args_of
+args_complete file last types around ts all names x h =
+    args_at (start false ts types file last) names (max_nesting - around) x h (omega (arith, kept_shrinks false false ts))
+
+pub block_unique : (types : List (List ℕ)) (around : ℕ) (ts : List Token) (all more : List StmtTree) → AreNames types
+    → Rest types (stmts_of all) (kept false ts) → Fit (max_nesting - around) (stmts_of all) → Rest types (stmts_of more) (kept false ts)
+    → Fit (max_nesting - around) (stmts_of more) → all ≡ more
+block_unique types around ts all more names x fx y fy =
+    same all more (sym (block_complete which.Xs 0 types around ts all names x fx) ∙ block_complete which.Xs 0 types around ts more names y fy)
+  where
+    same : (all more : List StmtTree) → ◌≡◌ {A = Result (List StmtTree) Fault} (Ok all) (Ok more) → all ≡ more
+    same all more e = cc

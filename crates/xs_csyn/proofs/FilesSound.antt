@@ -1,397 +1,361 @@
--- What is read as statements and files is in the grammar.
-use Rattle.std.proofs.Common.{◌≡◌, ℕ, zero, suc, ◌-◌, Bool, true, false, if◌then◌else◌, ◌&&◌, ◌||◌, ◌==◌, List, [], ◌∷◌, ◌++◌, append_assoc, append-nil, Result, Ok, Err, refl, ap, subst, sym, ◌∙◌, length, IfOk, arith}
+-- What is read as a file, or as a piece of one, is in the grammar.
+use Rattle.std.proofs.Common.{◌≡◌, ℕ, zero, suc, ◌-◌, ◌<◌, ◌≤◌, Bool, true, false, if◌then◌else◌, ◌&&◌, List, [], ◌∷◌, ◌++◌, length, append_assoc, append-nil, Result, Ok, Err, refl, ap, subst, sym, ◌∙◌, arith}
+use Rattle.std.proofs.lemmas.Bool.{and_parts}
 use Rattle.std.specs.Prelude.{codes}
-use Rattle.std.specs.Str.{bytes_eq}
-use Rattle.std.proofs.lemmas.Bool.{and_parts, eqb-true}
-use Rattle.std.proofs.lemmas.Slice.Eq.{bytes_eq-Decides}
-use Rattle.xs_base.specs.declared.fault.Fault.{Fault}
-use Rattle.xs_base.specs.declared.fault.Refuse.{Refuse}
-use Rattle.xs_base.specs.declared.source.FileOf.{FileOf}
-use Rattle.xs_base.specs.Lines.{early_end}
-use Rattle.xs_base.specs.Reading.{GivesBy}
-use Rattle.xs_csyn.specs.declared.node.Level.TheVariants as level
-use Rattle.xs_ctok.specs.declared.token.Token.{Token}
-use Rattle.xs_csyn.specs.declared.tree.CFile.{CFile}
-use Rattle.xs_csyn.specs.declared.tree.CType.{CType}
-use Rattle.xs_csyn.specs.declared.tree.PerlForm.TheVariants as form
-use Rattle.xs_csyn.specs.SyntaxTree as t
-use Rattle.xs_csyn.specs.SyntaxTree.{ExprTree, StmtTree, FunctionTree, ItemTree, XsFunction, FileTree, stmts_of}
-use Rattle.xs_csyn.specs.TokenInput.{Input, Reader, is_sign, is_key, is_word_kind, is_name, is_quoted, sees, sees_key, sees_type, sees_name, line, line_at, next, after, expect, expect_key, refuse, text_at, spelling, left, too_deep, a_name}
-use Rattle.xs_base.specs.Readers.{head_is, tail, pure, ◌>>◌, ◌>>=◌}
-use Rattle.xs_csyn.specs.ExpressionReader.{Found, expr, a_type}
-use Rattle.xs_csyn.specs.StatementReader.{max_nesting, an_expr, is_word_form, is_new_xs, begins_new_xs, ends_new_xs, form_of, sees_word_form, sees_new_xs, word_form, new_xs, effect, simple, declaration, part, parts_from, parts, block, condition, opens, stmt}
-use Rattle.xs_csyn.specs.FileReader.{body_begins, function, items_from, items, file_with, tree_of, tree_in, file_of}
-use Rattle.xs_ctok.specs.Tokens.{tokens_of}
-use Rattle.xs_csyn.specs.TreeViews.{file_tree}
-use Rattle.xs_csyn.specs.GlueGrammar as g
-use Rattle.xs_csyn.specs.GlueGrammar.{Whole, Comparison, Sum, AType, Declaration, Statement, Parts, File, IsTextOf, begins_body, line_of}
-use Rattle.xs_values.specs.declared.model.DataModel.TheVariants as model
-use Rattle.xs_base.proofs.ReaderSteps.{same_outcome, bind_ok, map_ok}
+use Rattle.xs_base.proofs.ReaderSteps.{bind_ok, same_outcome}
 use Rattle.xs_base.proofs.Stages.{bound}
-use Rattle.xs_csyn.proofs.ExpressionsSound.{consumed_ok, passed_ok, expect_ok, moved, GoesOn, unary_line, place_first, expr_sound, a_type_sound}
+use Rattle.xs_base.specs.declared.fault.Fault.{Fault}
+use Rattle.xs_base.specs.declared.fault_codes.TheConstants.{NO_READING_HERE}
+use Rattle.xs_base.specs.declared.source.FileOf.{FileOf}
+use Rattle.xs_ctok.specs.declared.token.Token.{Token}
+use Rattle.xs_csyn.proofs.Sizes.{type_shrinks}
+use Rattle.xs_csyn.proofs.ExpressionsSound.{Stood, expr_yields, type_yields}
+use Rattle.xs_csyn.proofs.StatementsSound.{SomeParts, all_parts_yield, part_yields, stmt_yields}
+use Rattle.xs_csyn.proofs.Yields.{Adds, Yields, adds_all, adds_last, adds_more, adds_none, at, by_eat, by_expect, by_if, by_name, by_variable, by_word, done, fails, step, weaken}
+use Rattle.xs_cexpr.specs.ExpressionReader.{Found, expr}
+use Rattle.xs_csyn.specs.FileGrammar as g
+use Rattle.xs_csyn.specs.FileGrammar.{AHead, Fields, File, IsFile, Item, Parameter, Parameters, SomeParameters, begins_body}
+use Rattle.xs_csyn.specs.FileReader.{a_record, a_typedef, args_from, args_of, block_of, body, body_begins, defines_of, expr_of, field, fields, fields_from, file_of, file_with, first_of_pair, function, head, item, items_from, items_of, named_type, parameter, parameters, parameters_from, rest_from, rest_of, sees_none, some_args, some_parameters, start, whole_of, with_types_of, xs_function}
+use Rattle.xs_csyn.specs.Grammar.{AType, Is, IsWord, MayName, Whole}
+use Rattle.xs_cexpr.specs.ExpressionHeights.{height, heights}
+use Rattle.xs_cstmt.specs.StatementHeights.{depths, tallest_of}
+use Rattle.xs_csyn.specs.FileHeights.{Fit, FitItems, FitsItem}
+use Rattle.xs_csyn.specs.StatementGrammar as s
+use Rattle.xs_csyn.specs.StatementGrammar.{AllArguments, ArgumentList, Parts, Rest}
+use Rattle.xs_cstmt.specs.StatementReader.{max_nesting, stmt}
+use Rattle.xs_csyn.specs.FileTree as tree
+use Rattle.xs_cexpr.specs.ExpressionTree.{ExprTree, exprs_of}
+use Rattle.xs_cstmt.specs.StatementTree.{StmtTree, stmts_of}
+use Rattle.xs_csyn.specs.FileTree.{FileTree, ItemTree}
+use Rattle.xs_cinput.specs.TokenInput.{Input, Outcome, at_end, fault, is_empty, is_word, kept, line, line_at, next, sees, sees_type, sees_word}
+use Rattle.xs_cinput.specs.TypeReader.{a_type, type_name}
+use Rattle.xs_cexpr.specs.declared.node.Level.TheVariants as level
+use Rattle.xs_cinput.specs.declared.tree.CType.{CType}
+use Rattle.xs_csyn.specs.declared.tree.Par.{Par}
+use Rattle.xs_values.specs.declared.model.DataModel.TheVariants as model
 
--- ---- lines
+pub data AField (types : List (List ℕ)) : Par → List Token → List Token → Type 0 where
+  one_field : {to : CType} {t u : Token} {ts us : List Token} → AType types to ts (t ∷ u ∷ us) → MayName t → Is (codes ";") u
+      → AField types (record { line = t.span.line; of_type = to; name = t.text }) ts us
 
-pub sum_line : (a : ExprTree) (ts us : List Token) (last : ℕ) → Sum a ts us → line_at last ts ≡ line_of a
-sum_line a ts us last (g.add {a = b} {ts = ts'} x is y) = sum_line b ts' _ last x
-sum_line a ts us last (g.is_unary x) = unary_line a ts us last x
+pub field_shrinks : {types : List (List ℕ)} {p : Par} {ts us : List Token} → AField types p ts us → length us < length ts
+field_shrinks (one_field ty n semi) = omega (arith, type_shrinks ty)
 
-comparison_line : (a : ExprTree) (ts us : List Token) (last : ℕ) → Comparison a ts us → line_at last ts ≡ line_of a
-comparison_line a ts us last (g.not_equal {a = b} {ts = ts'} x is y) = comparison_line b ts' _ last x
-comparison_line a ts us last (g.is_sum x) = sum_line a ts us last x
+one_more_field : {types : List (List ℕ)} {p : Par} {all : List Par} {ts us vs : List Token} → AField types p ts us → Fields types all us vs
+    → Fields types (p ∷ all) ts vs
+one_more_field (one_field ty n semi) x = g.field ty n semi x
 
-pub whole_line : (a : ExprTree) (ts us : List Token) (last : ℕ) → Whole a ts us → line_at last ts ≡ line_of a
-whole_line a ts us last (g.set {p = p} {ts = ts'} x is y) = place_first p ts' _ last x
-whole_line a ts us last (g.is_comparison x) = comparison_line a ts us last x
+abbrev AnItem : List (List ℕ) → List Token → ItemTree → List Token → Type 0
+AnItem types ts one us = Item types one ts us × FitsItem one
 
--- ---- the rules on lists of tokens
+false_is_not : ◌≡◌ {A = Bool} false true → ⊥
+false_is_not e = cc
 
-an_expr_sound : (i k : Input) (a : ExprTree) → an_expr i ≡ Ok (a, k) → Whole a i.rest k.rest
-unfolding an_expr
-an_expr_sound i k a h =
-    let p = map_ok (λ (n : Found). n.tree) (expr max_nesting level.Whole i) a k h in
-    rw p.2 (expr_sound max_nesting level.Whole i k p.0 p.1)
+module _ (b : Input) where
+  -- ---- types that are declared
 
-key_spells : (word : List ℕ) (n : Token) → is_key word n ≡ true → bytes_eq n.text word ≡ true
-key_spells word n h = (and_parts (is_word_kind n.kind) (bytes_eq n.text word) h).1
+  pub field_yields : (ts : List Token) → Yields b (field (at b ts)) (λ p us. AField b.types p ts us)
+  unfolding field line
+  field_yields ts =
+      step _ _ (type_yields b ts)
+      (λ to us ty. by_name (λ js. AType b.types to ts js × (line_at b.last us ≡ line_at b.last js)) (λ _ p vs. AField b.types p ts vs) us _ (ty, refl)
+      (λ u vs f n. by_expect (λ js. AType b.types to ts (u ∷ js)) (λ _ p ws. AField b.types p ts ws) (codes ";") vs _ (f.0)
+      (λ v ws ty' semi. done _ ws (rw (f.1) (one_field ty' n semi)))))
 
-word_stands : (last : ℕ) (ts : List Token) → is_word_form ts ≡ true → Statement (t.Perl (line_at last ts) (form_of (text_at ts))) ts (tail (tail ts))
-word_stands last [] h = absurd cc
-word_stands last (a ∷ []) h = absurd cc
-word_stands last (a ∷ b ∷ ts) h =
-    let p = and_parts (is_key (codes "dXSARGS") a || is_key (codes "XSRETURN_YES") a) (is_sign (codes ";") b) h in
-    by (is_key (codes "dXSARGS") a) refl p.0 p.1
-  where
-    by : (q : Bool) → is_key (codes "dXSARGS") a ≡ q → (q || is_key (codes "XSRETURN_YES") a) ≡ true → is_sign (codes ";") b ≡ true
-        → Statement (t.Perl a.line (form_of a.text)) (a ∷ b ∷ ts) ts
-    by true e w s = rw (key_spells (codes "dXSARGS") a e) (g.args e s)
-    by false e w s =
-        let y : is_key (codes "XSRETURN_YES") a ≡ true = w in
-        let same : a.text ≡ codes "XSRETURN_YES" = (bytes_eq-Decides a.text (codes "XSRETURN_YES")).0 (key_spells (codes "XSRETURN_YES") a y) in
-        let other : bytes_eq a.text (codes "dXSARGS") ≡ false = ap (λ x. bytes_eq x (codes "dXSARGS")) same in
-        rw other (g.return_yes y s)
+  fields_yield : (n : ℕ) (sofar : List Par) (ts : List Token) → Yields b (fields_from n sofar (at b ts)) (Adds (Fields b.types) sofar ts)
+  unfolding fields_from
+  fields_yield zero sofar ts = fails _
+  fields_yield (suc n) sofar ts =
+      by_eat (λ _. Unit {0}) (λ js. Adds (Fields b.types) sofar js) (codes "}") ts _ _ tt
+      (λ u us _ is. done sofar us (adds_none sofar (g.fields_over is)))
+      (λ _ isnt. step _ _ (field_yields ts) (λ one us x. weaken (fields_yield n (sofar ++ one ∷ []) us)
+      (λ found vs m. adds_more {R = Fields b.types} sofar one m (λ added y. one_more_field x y))))
 
-new_xs_stands : (last : ℕ) (ts : List Token) → is_new_xs ts ≡ true
-    → Statement (t.Perl (line_at last ts) (form.NewXs (text_at (tail (tail ts))) (text_at (tail (tail (tail (tail ts))))))) ts
-    (tail (tail (tail (tail (tail (tail (tail ts)))))))
-new_xs_stands last (a ∷ b ∷ c ∷ d ∷ e ∷ f ∷ z ∷ ts) h =
-    let p = and_parts (begins_new_xs a b c d) (ends_new_xs e f z) h in
-    let q = and_parts (is_key (codes "newXS_deffile") a && is_sign (codes "(") b && is_quoted c) (is_sign (codes ",") d) p.0 in
-    let r = and_parts (is_key (codes "newXS_deffile") a && is_sign (codes "(") b) (is_quoted c) q.0 in
-    let s = and_parts (is_key (codes "newXS_deffile") a) (is_sign (codes "(") b) r.0 in
-    let u = and_parts (is_name e && is_sign (codes ")") f) (is_sign (codes ";") z) p.1 in
-    let v = and_parts (is_name e) (is_sign (codes ")") f) u.0 in
-    g.new_xs s.0 s.1 r.1 q.1 v.0 v.1 u.1
-new_xs_stands last ts h = absurd cc
+  all_fields_yield : (ts : List Token) → Yields b (fields (at b ts)) (λ all us. Fields b.types all ts us)
+  unfolding fields
+  all_fields_yield ts = weaken (fields_yield b.turns [] ts) (λ found us m. adds_all m)
 
-effect_stands : (a : ExprTree) (last : ℕ) (ts us : List Token) → is_word_form ts ≡ false → is_new_xs ts ≡ false → Whole a ts us
-    → head_is (is_sign (codes ";")) us ≡ true → Statement (t.Effect (line_at last ts) a) ts (tail us)
-effect_stands a last ts [] w n x e = absurd cc
-effect_stands a last ts (u ∷ us) w n x e = rw (whole_line a ts (u ∷ us) last x) (g.effect w n x e)
+  typedef_yields : (t : Token) (ts : List Token) → IsWord (codes "typedef") t
+      → Yields b (a_typedef t.span.line (at b ts)) (λ d us. Item b.types (tree.TypedefItem d) (t ∷ ts) us)
+  unfolding a_typedef line
+  typedef_yields t ts w =
+      step _ _ (type_yields b ts)
+      (λ to us ty. by_name (λ js. AType b.types to ts js × (line_at b.last us ≡ line_at b.last js))
+      (λ _ d vs. Item b.types (tree.TypedefItem d) (t ∷ ts) vs) us _ (ty, refl)
+      (λ u vs f n. by_expect (λ js. AType b.types to ts (u ∷ js)) (λ _ d ws. Item b.types (tree.TypedefItem d) (t ∷ ts) ws) (codes ";") vs _ (f.0)
+      (λ v ws ty' semi. done _ ws (rw (f.1) (g.a_typedef w ty' n semi)))))
 
-no_type : (to : CType) (ts us : List Token) → AType to ts us → ts ≡ [] → ⊥
-no_type to ts us (g.type_word e s) h = cc
+  record_yields : (t u : Token) (ts : List Token) → IsWord (codes "typedef") t → IsWord (codes "struct") u
+      → Yields b (a_record t.span.line (at b ts)) (λ d us. Item b.types (tree.RecordItem d) (t ∷ u ∷ ts) us)
+  unfolding a_record line
+  record_yields t u ts w w' =
+      by_expect (λ _. Unit {0}) (λ js d us. Item b.types (tree.RecordItem d) (t ∷ u ∷ js) us) (codes "{") ts _ tt
+      (λ v vs _ opening. step _ _ (all_fields_yield vs)
+      (λ all us x. by_name (λ js. Fields b.types all vs js × (line_at b.last us ≡ line_at b.last js))
+      (λ _ d ws. Item b.types (tree.RecordItem d) (t ∷ u ∷ v ∷ vs) ws) us _ (x, refl)
+      (λ z ws f n. by_expect (λ js. Fields b.types all vs (z ∷ js)) (λ _ d xs. Item b.types (tree.RecordItem d) (t ∷ u ∷ v ∷ vs) xs) (codes ";") ws _ (f.0)
+      (λ y xs x' semi. done _ xs (rw (f.1) (g.a_record w w' opening x' n semi))))))
 
-declared_stands : (to : CType) (last : ℕ) (ts us : List Token) → AType to ts us → head_is is_name us ≡ true → head_is (is_sign (codes ";")) (tail us) ≡ true
-    → Declaration (t.Declare (line_at last ts) to (text_at us)) ts (tail (tail us))
-declared_stands to last [] us x n s = absurd (no_type to [] us x refl)
-declared_stands to last (a ∷ ts) [] x n s = absurd cc
-declared_stands to last (a ∷ ts) (u ∷ []) x n s = absurd cc
-declared_stands to last (a ∷ ts) (u ∷ v ∷ us) x n s = g.declare x n s
+  named_type_yields : (t : Token) (ts : List Token) → IsWord (codes "typedef") t → Yields b (named_type t.span.line (at b ts)) (AnItem b.types (t ∷ ts))
+  unfolding named_type sees_word next
+  named_type_yields t [] w = step _ _ (typedef_yields t [] w) (λ d us x. done _ us (x, tt))
+  named_type_yields t (u ∷ us) w =
+      by_if (sees_word (codes "struct") (at b (u ∷ us))) _ _ (λ w'. step _ _ (record_yields t u us w w') (λ d vs x. done _ vs (x, tt)))
+      (λ isnt. step _ _ (typedef_yields t (u ∷ us) w) (λ d vs x. done _ vs (x, tt)))
 
-over_stands : (ts : List Token) → head_is (is_sign (codes "}")) ts ≡ true → Parts t.NoStmts ts (tail ts)
-over_stands [] e = absurd cc
-over_stands (u ∷ ts) e = g.over e
+  -- ---- functions
 
-block_stands : (body : t.StmtTrees) (last : ℕ) (ts us : List Token) → head_is (is_sign (codes "{")) ts ≡ true → Parts body (tail ts) us
-    → Statement (t.Block (line_at last ts) body) ts us
-block_stands body last [] us e x = absurd cc
-block_stands body last (a ∷ ts) us e x = g.block e x
+  body_yields : (ts : List Token) → Yields b (body (at b ts)) (λ all us. SomeParts b.types (max_nesting - 1) all ts us)
+  unfolding body
+  body_yields ts = all_parts_yield b (stmt (max_nesting - 1)) (max_nesting - 1) (stmt_yields b (max_nesting - 1)) ts
 
-condition_stands : (test : ExprTree) (s : StmtTree) (last : ℕ) (ts us vs ws : List Token) → head_is (is_key (codes "if")) ts ≡ true
-    → head_is (is_sign (codes "(")) (tail ts) ≡ true → Whole test (tail (tail ts)) us → head_is (is_sign (codes ")")) us ≡ true → vs ≡ tail us
-    → Statement s vs ws
-    → Statement (t.If (line_at last ts) test s) ts ws
-condition_stands test s last [] us vs ws k o x c r y = absurd cc
-condition_stands test s last (a ∷ []) us vs ws k o x c r y = absurd cc
-condition_stands test s last (a ∷ b ∷ ts) [] vs ws k o x c r y = absurd cc
-condition_stands test s last (a ∷ b ∷ ts) (u ∷ us) vs ws k o x c r y = let y' : Statement s us ws = rw (← r) y in g.condition k o x c y'
+  begins_yields : (ts : List Token) → Yields b (body_begins (at b ts)) (λ _ us. (us ≡ ts) × (begins_body ts ≡ true))
+  unfolding body_begins
+  begins_yields ts =
+      by_word (λ _. Unit {0}) (λ js _ us. (us ≡ ts) × (begins_body js ≡ true)) (codes "dXSARGS") ts _ tt
+      (λ u us _ w. by_expect (λ _. Unit {0}) (λ js _ vs. (vs ≡ ts) × (begins_body (u ∷ js) ≡ true)) (codes ";") us _ tt
+      (λ v vs _ semi. done tt ts (refl, rw (w, semi) refl)))
 
-a_name_ok : (i k : Input) (name : List ℕ) → a_name i ≡ Ok (name, k) → (head_is is_name i.rest ≡ true) × (name ≡ text_at i.rest) × (k ≡ next i)
-unfolding a_name sees_name spelling
-a_name_ok i k name h = consumed_ok (head_is is_name i.rest) i k name h
+  xs_function_yields : (t : Token) (ts : List Token) → IsWord (codes "XS") t → Yields b (xs_function t.span.line (at b ts)) (AnItem b.types (t ∷ ts))
+  unfolding xs_function
+  xs_function_yields t ts w =
+      by_expect (λ _. Unit {0}) (λ js. AnItem b.types (t ∷ js)) (codes "(") ts _ tt
+      (λ u us _ opening. by_name (λ _. Unit {0}) (λ js. AnItem b.types (t ∷ u ∷ js)) us _ tt
+      (λ v vs _ n. by_expect (λ _. Unit {0}) (λ js. AnItem b.types (t ∷ u ∷ v ∷ js)) (codes ")") vs _ tt
+      (λ x ws _ close. by_expect (λ _. Unit {0}) (λ js. AnItem b.types (t ∷ u ∷ v ∷ x ∷ js)) (codes "{") ws _ tt
+      (λ y xs _ brace. step _ _ (begins_yields xs)
+      (λ _ ys z. step _ _ (body_yields ys)
+      (λ all zs p. done _ zs (
+        g.xs_function w opening n close brace (z.1) (subst (λ (js : List Token). Parts b.types (stmts_of all) js zs) (z.0) (p.0)),
+        (omega (arith, p.1), p.2),
+      )))))))
 
--- a statement that was found stands from one place to another
-abbrev Stood : Input → StmtTree → Input → Type 0
-Stood i s k = Statement s i.rest k.rest
+  pub parameter_yields : (ts : List Token) → Yields b (parameter (at b ts)) (λ p us. Parameter b.types p ts us)
+  unfolding parameter line
+  parameter_yields ts =
+      step _ _ (type_yields b ts)
+      (λ to us ty. by_variable (λ js. AType b.types to ts js × (line_at b.last us ≡ line_at b.last js)) (λ _ p vs. Parameter b.types p ts vs) us _ (ty, refl)
+      (λ u vs f v. done _ vs (rw (f.1) (g.parameter f.0 v))))
 
--- ---- simple statements
+  parameters_yield : (n : ℕ) (sofar : List Par) (ts : List Token)
+      → Yields b (parameters_from n sofar (at b ts)) (Adds (SomeParameters b.types) sofar ts)
+  unfolding parameters_from
+  parameters_yield zero sofar ts = fails _
+  parameters_yield (suc n) sofar ts =
+      step _ _ (parameter_yields ts)
+      (λ one us x. by_eat (λ js. Parameter b.types one ts js) (λ _. Adds (SomeParameters b.types) sofar ts) (codes ",") us _ _ x
+      (λ u vs x' comma. weaken (parameters_yield n (sofar ++ one ∷ []) vs)
+      (λ found ws m. adds_more {R = SomeParameters b.types} sofar one m (λ added y. g.more_parameters x' comma y)))
+      (λ x' isnt. by_expect (λ js. Parameter b.types one ts js) (λ _. Adds (SomeParameters b.types) sofar ts) (codes ")") us _ x'
+      (λ u vs x'' close. done _ vs (adds_last sofar one (g.last_parameter x'' close)))))
 
-word_form_sound : (i k : Input) (s : StmtTree) → is_word_form i.rest ≡ true → word_form i ≡ Ok (s, k) → Statement s i.rest k.rest
-unfolding word_form line spelling next
-word_form_sound i k s e h =
-    let q = same_outcome {E = Fault} (t.Perl (line i) (form_of (spelling i))) s (next (next i)) k h in
-    moved (Stood i) (t.Perl (line i) (form_of (spelling i))) s (next (next i)) k (sym q.0) (sym q.1) (word_stands i.last i.rest e)
+  some_yield : (ts : List Token) → Yields b (some_parameters (at b ts)) (λ all us. Parameters b.types all ts us)
+  unfolding some_parameters
+  some_yield ts = weaken (parameters_yield b.turns [] ts) (λ found us m. g.some_parameters (adds_all m))
 
-new_xs_sound : (i k : Input) (s : StmtTree) → is_new_xs i.rest ≡ true → new_xs i ≡ Ok (s, k) → Statement s i.rest k.rest
-unfolding new_xs line spelling next
-new_xs_sound i k s e h =
-    let made : StmtTree = t.Perl (line i) (form.NewXs (text_at (tail (tail i.rest))) (text_at (tail (tail (tail (tail i.rest)))))) in
-    let there : Input = next (next (next (next (next (next (next i)))))) in
-    let q = same_outcome {E = Fault} made s there k h in
-    moved (Stood i) made s there k (sym q.0) (sym q.1) (new_xs_stands i.last i.rest e)
+  no_close : (t : Token) → (is_word (codes "void") t && sees (codes ")") (at b [])) ≡ true → ⊥
+  unfolding sees
+  no_close t both = false_is_not (and_parts (is_word (codes "void") t) false both).1
 
-effect_sound : (i k : Input) (s : StmtTree) → is_word_form i.rest ≡ false → is_new_xs i.rest ≡ false → effect i ≡ Ok (s, k) → Statement s i.rest k.rest
-unfolding effect line next
-effect_sound i k s w n h =
-    let p = bind_ok (an_expr i) (λ a. expect (codes ";") >> pure (t.Effect (line i) a)) (s, k) h in
-    let q = bind_ok (expect (codes ";") p.1) (λ _. pure (t.Effect (line i) p.0)) (s, k) p.3 in
-    let x = expect_ok (codes ";") p.1 q.1 q.0 q.2 in
-    let r = same_outcome {E = Fault} (t.Effect (line i) p.0) s q.1 k q.3 in
-    moved (Stood i) (t.Effect (line i) p.0) s (next p.1) k (sym r.0) (sym r.1
-    ∙ x.1) (effect_stands p.0 i.last i.rest p.1.rest w n (an_expr_sound i p.1 p.0 p.2) x.0)
+  closes : (u : Token) (us : List Token) → sees (codes ")") (at b (u ∷ us)) ≡ true → Is (codes ")") u
+  unfolding sees
+  closes u us is = is
 
-simple_sound : (i k : Input) (s : StmtTree) → simple i ≡ Ok (s, k) → Statement s i.rest k.rest
-unfolding simple sees_word_form sees_new_xs
-simple_sound i k s h = by_word (is_word_form i.rest) refl h
-  where
-    by_new : is_word_form i.rest ≡ false → (b : Bool) → is_new_xs i.rest ≡ b → (if b then new_xs i else effect i) ≡ Ok (s, k) → Statement s i.rest k.rest
-    by_new w true e h = new_xs_sound i k s e h
-    by_new w false e h = effect_sound i k s w e h
+  all_parameters_yield : (ts : List Token) → Yields b (parameters (at b ts)) (λ all us. Parameters b.types all ts us)
+  unfolding parameters sees_none sees_word next
+  all_parameters_yield [] =
+      by_eat (λ _. Unit {0}) (λ js all us. Parameters b.types all js us) (codes ")") [] _ _ tt
+      (λ u us _ close. done [] us (g.no_parameters close)) (λ _ isnt. some_yield [])
+  all_parameters_yield (t ∷ []) =
+      by_if (is_word (codes "void") t && sees (codes ")") (at b [])) _ _ (λ both. absurd (no_close t both))
+      (λ isnt. by_eat (λ _. Unit {0}) (λ js all us. Parameters b.types all js us) (codes ")") (t ∷ []) _ _ tt
+      (λ u us _ close. done [] us (g.no_parameters close)) (λ _ isnt. some_yield (t ∷ [])))
+  all_parameters_yield (t ∷ u ∷ us) =
+      by_if (is_word (codes "void") t && sees (codes ")") (at b (u ∷ us))) _ _
+      (λ both. let p = and_parts (is_word (codes "void") t) (sees (codes ")") (at b (u ∷ us))) both in done [] us (g.void_parameters p.0 (closes u us p.1)))
+      (λ isnt. by_eat (λ _. Unit {0}) (λ js all vs. Parameters b.types all js vs) (codes ")") (t ∷ u ∷ us) _ _ tt
+      (λ v vs _ close. done [] vs (g.no_parameters close)) (λ _ isnt. some_yield (t ∷ u ∷ us)))
 
-    by_word : (b : Bool) → is_word_form i.rest ≡ b → (if b then word_form i else (if is_new_xs i.rest then new_xs i else effect i)) ≡ Ok (s, k)
-        → Statement s i.rest k.rest
-    by_word true e h = word_form_sound i k s e h
-    by_word false e h = by_new e (is_new_xs i.rest) refl h
+  head_yields : (t : Token) (ts : List Token) → Yields b (head t.span.line (at b (t ∷ ts))) (λ h us. AHead b.types h (t ∷ ts) us)
+  unfolding head
+  head_yields t ts =
+      step _ _ (type_yields b (t ∷ ts))
+      (λ to us ty. by_name (AType b.types to (t ∷ ts)) (λ _ h vs. AHead b.types h (t ∷ ts) vs) us _ ty
+      (λ u vs ty' n. by_expect (λ js. AType b.types to (t ∷ ts) (u ∷ js)) (λ _ h ws. AHead b.types h (t ∷ ts) ws) (codes "(") vs _ ty'
+      (λ v ws ty'' opening. step _ _ (all_parameters_yield ws) (λ all xs x. done _ xs (g.a_head ty'' n opening x)))))
 
-pub declaration_sound : (i k : Input) (s : StmtTree) → declaration i ≡ Ok (s, k) → Declaration s i.rest k.rest
-unfolding declaration line next
-declaration_sound i k s h =
-    let p = bind_ok (a_type i) (λ to. a_name >>= λ name. expect (codes ";") >> pure (t.Declare (line i) to name)) (s, k) h in
-    let q = bind_ok (a_name p.1) (λ name. expect (codes ";") >> pure (t.Declare (line i) p.0 name)) (s, k) p.3 in
-    let n = a_name_ok p.1 q.1 q.0 q.2 in
-    let r = bind_ok (expect (codes ";") q.1) (λ _. pure (t.Declare (line i) p.0 q.0)) (s, k) q.3 in
-    let x = expect_ok (codes ";") q.1 r.1 r.0 r.2 in
-    let e = same_outcome {E = Fault} (t.Declare (line i) p.0 q.0) s r.1 k r.3 in
-    let semicolon : head_is (is_sign (codes ";")) (tail p.1.rest) ≡ true = ap (λ (j : Input). head_is (is_sign (codes ";")) j.rest) (sym n.2) ∙ x.0 in
-    moved (λ (d : StmtTree) (j : Input). Declaration d i.rest j.rest) (t.Declare (line i) p.0 (text_at p.1.rest)) s (next (next p.1)) k (sym e.0
-    ∙ ap (λ name. t.Declare (line i) p.0 name) n.1) (sym e.1 ∙ x.1 ∙ ap next n.2)
-    (declared_stands p.0 i.last i.rest p.1.rest (a_type_sound i p.1 p.0 p.2) n.0 semicolon)
+  function_yields : (t : Token) (ts : List Token) → Yields b (function t.span.line (at b (t ∷ ts))) (AnItem b.types (t ∷ ts))
+  unfolding function
+  function_yields t ts =
+      step _ _ (head_yields t ts)
+      (λ h us x. by_eat (AHead b.types h (t ∷ ts)) (λ _. AnItem b.types (t ∷ ts)) (codes ";") us _ _ x
+      (λ u vs x' semi. done _ vs (g.prototype x' semi, tt))
+      (λ x' isnt. by_expect (AHead b.types h (t ∷ ts)) (λ _. AnItem b.types (t ∷ ts)) (codes "{") us _ x'
+      (λ u vs x'' opening. step _ _ (body_yields vs) (λ all ws p. done _ ws (g.function x'' opening p.0, (omega (arith, p.1), p.2))))))
 
--- ---- statements that hold others
+  -- ---- files
 
--- statements from one place to another
-abbrev MoreParts : Input → Input → List StmtTree → Type 0
-MoreParts i k ss = Parts (stmts_of ss) i.rest k.rest
+  no_function : {P : ItemTree → List Token → Type 0} (n : ℕ) → Yields b (function n (at b [])) P
+  unfolding function head a_type type_name sees_type line
+  no_function n = fails _
 
-module _ (inner : Reader StmtTree) (H : (i k : Input) (s : StmtTree) → inner i ≡ Ok (s, k) → Statement s i.rest k.rest) where
-  part_sound : (i k l : Input) (s : StmtTree) (all : t.StmtTrees) → part inner i ≡ Ok (s, k) → Parts all k.rest l.rest → Parts (t.MoreStmts s all) i.rest l.rest
-  unfolding part
-  part_sound i k l s all h rest = by (sees_type i) h
-    where
-      by : (b : Bool) → (if b then declaration i else inner i) ≡ Ok (s, k) → Parts (t.MoreStmts s all) i.rest l.rest
-      by true h = g.declared (declaration_sound i k s h) rest
-      by false h = g.stated (H i k s h) rest
+  pub item_yields : (ts : List Token) → Yields b (item (at b ts)) (AnItem b.types ts)
+  unfolding item sees_word line next
+  item_yields [] = no_function b.last
+  item_yields (t ∷ ts) =
+      by_if (sees_word (codes "typedef") (at b (t ∷ ts))) _ _ (λ w. named_type_yields t ts w) (λ isnt. by_if (sees_word (codes "XS") (at b (t ∷ ts))) _ _
+      (λ w. xs_function_yields t ts w) (λ isnt'. function_yields t ts))
 
-  parts_from_sound : (n : ℕ) (done found : List StmtTree) (i k : Input) → parts_from inner n done i ≡ Ok (found, k) → GoesOn done found (MoreParts i k)
-  unfolding parts_from after sees next
-  parts_from_sound zero done found i k h = absurd cc
-  parts_from_sound (suc n) done found i k h = by (λ s j h'. parts_from_sound n (done ++ s ∷ []) found j k h') (sees (codes "}") i) refl h
-    where
-      by : ((s : StmtTree) (j : Input) → parts_from inner n (done ++ s ∷ []) j ≡ Ok (found, k) → GoesOn (done ++ s ∷ []) found (MoreParts j k))
-          → (b : Bool) → sees (codes "}") i ≡ b
-          → (if b then pure done else (part inner >>= λ one. parts_from inner n (done ++ one ∷ []))) (if b then next i else i) ≡ Ok (found, k)
-          → GoesOn done found (MoreParts i k)
-      by again true e h =
-          let s = same_outcome {E = Fault} done found (next i) k h in
-          let there : k.rest ≡ tail i.rest = ap (λ (j : Input). j.rest) (sym s.1) in
-          ([], sym s.0 ∙ sym (append-nil done), rw there (over_stands i.rest e))
-      by again false e h =
-          let p = bind_ok (part inner i) (λ one. parts_from inner n (done ++ one ∷ [])) (found, k) h in
-          let rest = again p.0 p.1 p.3 in
-          (p.0 ∷ rest.0, rest.1 ∙ append_assoc done (p.0 ∷ []) rest.0, part_sound i p.1 k p.0 (stmts_of rest.0) p.2 rest.2)
+-- items that were found, after those that were there
+record Items (types : List (List ℕ)) (sofar : List ItemTree) (ts : List Token) (found : List ItemTree) : Type 0 where
+  added : List ItemTree
+  is : found ≡ sofar ++ added
+  stands : File types added ts
+  fit : FitItems added
 
-  parts_sound : (i k : Input) (found : List StmtTree) → parts inner i ≡ Ok (found, k) → Parts (stmts_of found) i.rest k.rest
-  unfolding parts
-  parts_sound i k found h = let x = parts_from_sound (suc (left i)) [] found i k h in rw x.1 x.2
-
-  block_sound : (i k : Input) (s : StmtTree) → sees (codes "{") i ≡ true → block inner i ≡ Ok (s, k) → Statement s i.rest k.rest
-  unfolding block sees line next
-  block_sound i k s e h =
-      let p = map_ok (λ body. t.Block (line i) (stmts_of body)) (parts inner (next i)) s k h in
-      moved (Stood i) (t.Block (line i) (stmts_of p.0)) s k k p.2 refl (block_stands (stmts_of p.0) i.last i.rest k.rest e (parts_sound (next i) k p.0 p.1))
-
-  condition_sound : (i k : Input) (s : StmtTree) → sees_key (codes "if") i ≡ true → condition inner i ≡ Ok (s, k) → Statement s i.rest k.rest
-  unfolding condition sees_key line next
-  condition_sound i k s e h =
-      let o = bind_ok (expect (codes "(") (next i)) (λ _. an_expr >>= λ test. expect (codes ")") >> (inner >>= λ then_do. pure (t.If (line i) test then_do)))
-      (s, k) h in
-      let ox = expect_ok (codes "(") (next i) o.1 o.0 o.2 in
-      let p = bind_ok (an_expr o.1) (λ test. expect (codes ")") >> (inner >>= λ then_do. pure (t.If (line i) test then_do))) (s, k) o.3 in
-      let c = bind_ok (expect (codes ")") p.1) (λ _. inner >>= λ then_do. pure (t.If (line i) p.0 then_do)) (s, k) p.3 in
-      let cx = expect_ok (codes ")") p.1 c.1 c.0 c.2 in
-      let q = map_ok (λ then_do. t.If (line i) p.0 then_do) (inner c.1) s k c.3 in
-      let test : Whole p.0 (tail (tail i.rest)) p.1.rest = rw (← ap (λ (j : Input). j.rest) ox.1) (an_expr_sound o.1 p.1 p.0 p.2) in
-      moved (Stood i) (t.If (line i) p.0 q.0) s k k q.2 refl
-      (condition_stands p.0 q.0 i.last i.rest p.1.rest c.1.rest k.rest e ox.0 test cx.0 (ap (λ (j : Input). j.rest) cx.1) (H c.1 k q.0 q.1))
-
-pub stmt_sound : (room : ℕ) (i k : Input) (s : StmtTree) → stmt room i ≡ Ok (s, k) → Statement s i.rest k.rest
-unfolding stmt
-stmt_sound zero i k s h = by (opens i) h
-  where
-    by : (b : Bool) → (if b then too_deep i else simple i) ≡ Ok (s, k) → Statement s i.rest k.rest
-    by true h = absurd cc
-    by false h = simple_sound i k s h
-stmt_sound (suc below) i k s h = by_block (stmt_sound below) (sees (codes "{") i) refl h
-  where
-    by_if : ((i k : Input) (s : StmtTree) → stmt below i ≡ Ok (s, k) → Statement s i.rest k.rest) → (b : Bool) → sees_key (codes "if") i ≡ b
-        → (if b then condition (stmt below) i else simple i) ≡ Ok (s, k) → Statement s i.rest k.rest
-    by_if deeper true e h = condition_sound (stmt below) deeper i k s e h
-    by_if deeper false e h = simple_sound i k s h
-
-    by_block : ((i k : Input) (s : StmtTree) → stmt below i ≡ Ok (s, k) → Statement s i.rest k.rest) → (b : Bool) → sees (codes "{") i ≡ b
-        → (if b then block (stmt below) i else (if sees_key (codes "if") i then condition (stmt below) i else simple i)) ≡ Ok (s, k) → Statement s i.rest k.rest
-    by_block deeper true e h = block_sound (stmt below) deeper i k s e h
-    by_block deeper false e h = by_if deeper (sees_key (codes "if") i) refl h
-
--- ---- files
-
-expect_key_ok : (word : List ℕ) (i k : Input) (u : Unit {0}) → expect_key word i ≡ Ok (u, k) → (head_is (is_key word) i.rest ≡ true) × (k ≡ next i)
-unfolding expect_key sees_key
-expect_key_ok word i k u h = passed_ok (head_is (is_key word) i.rest) i k u h
-
-begins_body_by : (ts : List Token) → head_is (is_key (codes "dXSARGS")) ts ≡ true → head_is (is_sign (codes ";")) (tail ts) ≡ true → begins_body ts ≡ true
-begins_body_by [] k e = absurd cc
-begins_body_by (a ∷ []) k e = absurd cc
-begins_body_by (a ∷ b ∷ ts) k e = rw (k, e) refl
-
-body_begins_ok : (i k : Input) (u : Unit {0}) → body_begins i ≡ Ok (u, k) → (begins_body i.rest ≡ true) × (k ≡ i)
-unfolding body_begins next
-body_begins_ok i k u h =
-    let a = bind_ok (expect_key (codes "dXSARGS") i) (λ _. expect (codes ";") >> (λ _. Ok (tt, i))) (u, k) h in
-    let ax = expect_key_ok (codes "dXSARGS") i a.1 a.0 a.2 in
-    let b = bind_ok (expect (codes ";") a.1) (λ _ _. Ok (tt, i)) (u, k) a.3 in
-    let bx = expect_ok (codes ";") a.1 b.1 b.0 b.2 in
-    let there : a.1.rest ≡ tail i.rest = ap (λ (j : Input). j.rest) ax.1 in
-    (begins_body_by i.rest ax.0 (ap (head_is (is_sign (codes ";"))) (sym there) ∙ bx.0), sym (same_outcome {E = Fault} tt u i k b.3).1)
-
-function_stands : (body : t.StmtTrees) (all : List ItemTree) (last : ℕ) (ts us : List Token) → head_is (is_key (codes "XS")) ts ≡ true
-    → head_is (is_sign (codes "(")) (tail ts) ≡ true → head_is is_name (tail (tail ts)) ≡ true → head_is (is_sign (codes ")")) (tail (tail (tail ts))) ≡ true
-    → head_is (is_sign (codes "{")) (tail (tail (tail (tail ts)))) ≡ true → begins_body (tail (tail (tail (tail (tail ts))))) ≡ true
-    → Parts body (tail (tail (tail (tail (tail ts))))) us → File all us
-    → File (XsFunction (record { line = line_at last ts; name = text_at (tail (tail ts)); body = body }) ∷ all) ts
-function_stands body all last (t1 ∷ t2 ∷ t3 ∷ t4 ∷ t5 ∷ ts) us k o n c b d x r = g.function k o n c b d x r
-function_stands body all last ts us k o n c b d x r = absurd cc
-
--- what stands where a function was read
-pub record FunctionRead (i k : Input) (f : FunctionTree) : Type 0 where
-  pub body : t.StmtTrees
-  pub is : f ≡ record { line = line_at i.last i.rest; name = text_at (tail (tail i.rest)); body = body }
-  pub parts : Parts body (tail (tail (tail (tail (tail i.rest))))) k.rest
-  pub goes : (all : List ItemTree) → File all k.rest
-      → File (XsFunction (record { line = line_at i.last i.rest; name = text_at (tail (tail i.rest)); body = body }) ∷ all) i.rest
-
-pub function_read : (i k : Input) (f : FunctionTree) → function i ≡ Ok (f, k) → FunctionRead i k f
-unfolding function line next
-function_read i k f h =
-    let a = bind_ok (expect_key (codes "XS") i)
-    (λ _. expect (codes "(") >>
-    (a_name >>= λ name. expect (codes ")") >> (expect (codes "{") >> (body_begins >> (parts (stmt (max_nesting - 1)) >>= λ body. pure (made name body))))))
-    (f, k) h in
-    let ax = expect_key_ok (codes "XS") i a.1 a.0 a.2 in
-    let b = bind_ok (expect (codes "(") a.1)
-    (λ _. a_name >>= λ name. expect (codes ")") >>
-    (expect (codes "{") >> (body_begins >> (parts (stmt (max_nesting - 1)) >>= λ body. pure (made name body))))) (f, k) a.3 in
-    let bx = expect_ok (codes "(") a.1 b.1 b.0 b.2 in
-    let c = bind_ok (a_name b.1)
-    (λ name. expect (codes ")") >> (expect (codes "{") >> (body_begins >> (parts (stmt (max_nesting - 1)) >>= λ body. pure (made name body)))))
-    (f, k) b.3 in
-    let cx = a_name_ok b.1 c.1 c.0 c.2 in
-    let d = bind_ok (expect (codes ")") c.1) (λ _. expect (codes "{") >> (body_begins >> (parts (stmt (max_nesting - 1)) >>= λ body. pure (made c.0 body))))
-    (f, k) c.3 in
-    let dx = expect_ok (codes ")") c.1 d.1 d.0 d.2 in
-    let e = bind_ok (expect (codes "{") d.1) (λ _. body_begins >> (parts (stmt (max_nesting - 1)) >>= λ body. pure (made c.0 body))) (f, k) d.3 in
-    let ex = expect_ok (codes "{") d.1 e.1 e.0 e.2 in
-    let m = bind_ok (body_begins e.1) (λ _. parts (stmt (max_nesting - 1)) >>= λ body. pure (made c.0 body)) (f, k) e.3 in
-    let mx = body_begins_ok e.1 m.1 m.0 m.2 in
-    let p = map_ok (made c.0) (parts (stmt (max_nesting - 1)) m.1) f k m.3 in
-    let at1 : a.1.rest ≡ tail i.rest = ap (λ (j : Input). j.rest) ax.1 in
-    let at2 : b.1.rest ≡ tail (tail i.rest) = ap (λ (j : Input). j.rest) bx.1 ∙ ap tail at1 in
-    let at3 : c.1.rest ≡ tail (tail (tail i.rest)) = ap (λ (j : Input). j.rest) cx.2 ∙ ap tail at2 in
-    let at4 : d.1.rest ≡ tail (tail (tail (tail i.rest))) = ap (λ (j : Input). j.rest) dx.1 ∙ ap tail at3 in
-    let at5 : e.1.rest ≡ tail (tail (tail (tail (tail i.rest)))) = ap (λ (j : Input). j.rest) ex.1 ∙ ap tail at4 in
-    let at6 : m.1.rest ≡ tail (tail (tail (tail (tail i.rest)))) = ap (λ (j : Input). j.rest) mx.1 ∙ at5 in
-    let name_is : c.0 ≡ text_at (tail (tail i.rest)) = cx.1 ∙ ap text_at at2 in
-    let body_stands = parts_at (stmts_of p.0) m.1.rest (tail (tail (tail (tail (tail i.rest))))) k.rest at6
-    (parts_sound (stmt (max_nesting - 1)) (stmt_sound (max_nesting - 1)) m.1 k p.0 p.1) in
+items_sound : (n : ℕ) (b : Input) (sofar found : List ItemTree) (ts : List Token) (k : Input) → items_from n sofar (at b ts) ≡ Ok (found, k)
+    → Items b.types sofar ts found
+unfolding items_from at_end
+items_sound zero b sofar found ts k h = absurd cc
+items_sound (suc n) b sofar found [] k h =
+    let s = same_outcome {E = Fault} sofar found (at b []) k h in
+    record { added = []; is = sym s.0 ∙ sym (append-nil sofar); stands = g.file_over; fit = tt }
+items_sound (suc n) b sofar found (t ∷ ts) k h =
+    let p = bind_ok (item (at b (t ∷ ts))) (λ one j. items_from n (sofar ++ one ∷ []) (with_types_of one j)) (found, k) h in
+    let q = (item_yields b (t ∷ ts)).gives p.0 p.1 p.2 in
+    let m = items_sound n (with_types_of p.0 b) (sofar ++ p.0 ∷ []) found q.0 k
+    (ap (λ (j : Input). items_from n (sofar ++ p.0 ∷ []) (with_types_of p.0 j)) (sym q.1) ∙ p.3) in
     record {
-      body = stmts_of p.0;
-      is = p.2 ∙ ap (λ n. made n p.0) name_is;
-      parts = body_stands;
-      goes = λ all rest. function_stands (stmts_of p.0) all i.last i.rest k.rest ax.0
-          (ap (head_is (is_sign (codes "("))) (sym at1) ∙ bx.0) (ap (head_is is_name) (sym at2) ∙ cx.0) (ap (head_is (is_sign (codes ")"))) (sym at3) ∙ dx.0)
-          (ap (head_is (is_sign (codes "{"))) (sym at4) ∙ ex.0) (ap begins_body (sym at5) ∙ mx.0) body_stands rest;
+      added = p.0 ∷ m.added;
+      is = m.is ∙ append_assoc sofar (p.0 ∷ []) m.added;
+      stands = g.item q.2.0 m.stands;
+      fit = (q.2.1, m.fit);
     }
+
+items_are : (i : Input) (ts : List Token) (all : List ItemTree) → i ≡ at i ts → items_of i ≡ Ok all → File i.types all ts × FitItems all
+items_are i ts all e h =
+    let read = bound (items_from i.turns [] i) first_of_pair all h in
+    let m = items_sound i.turns i [] read.at.0 ts read.at.1 (ap (items_from i.turns []) (sym e) ∙ read.was) in
+    let same : read.at.0 ≡ all = same_items read.at.0 all read.then_is in
+    let found : all ≡ m.added = sym same ∙ m.is in
+    (rw found (m.stands), rw found (m.fit))
   where
-    made : List ℕ → List StmtTree → FunctionTree
-    made name body = record { line = line_at i.last i.rest; name = name; body = stmts_of body }
+    same_items : (x y : List ItemTree) → ◌≡◌ {A = Result (List ItemTree) Fault} (Ok x) (Ok y) → x ≡ y
+    same_items x y e = cc
 
-    parts_at : (body : t.StmtTrees) (ts us vs : List Token) → ts ≡ us → Parts body ts vs → Parts body us vs
-    parts_at body ts us vs e x = rw (← e) x
-
-function_sound : (i k : Input) (f : FunctionTree) (all : List ItemTree) → function i ≡ Ok (f, k) → File all k.rest → File (XsFunction f ∷ all) i.rest
-function_sound i k f all h rest =
-    let read = function_read i k f h in
-    subst (λ (one : FunctionTree). File (XsFunction one ∷ all) i.rest) (sym read.is) (read.goes all rest)
-
-nothing_left : (ts : List Token) → length ts ≡ 0 → File [] ts
-nothing_left [] e = g.nothing
-nothing_left (t1 ∷ ts) e = absurd (omega arith)
-
--- items from a place to the end
-abbrev MoreItems : Input → List ItemTree → Type 0
-MoreItems i all = File all i.rest
-
-items_sound : (n : ℕ) (done found : List ItemTree) (i k : Input) → items_from n done i ≡ Ok (found, k) → GoesOn done found (MoreItems i)
-unfolding items_from left
-items_sound zero done found i k h = by (length i.rest == 0) refl h
-  where
-    by : (b : Bool) → (length i.rest == 0) ≡ b → (if b then Ok (done, i) else refuse i) ≡ Ok (found, k) → GoesOn done found (MoreItems i)
-    by true e h = let s = same_outcome {E = Fault} done found i k h in ([], sym s.0 ∙ sym (append-nil done), nothing_left i.rest (eqb-true (length i.rest) 0 e))
-    by false e h = absurd cc
-items_sound (suc n) done found i k h = by (λ one j h'. items_sound n (done ++ XsFunction one ∷ []) found j k h') (length i.rest == 0) refl h
-  where
-    by : ((one : FunctionTree) (j : Input) → items_from n (done ++ XsFunction one ∷ []) j ≡ Ok (found, k)
-        → GoesOn (done ++ XsFunction one ∷ []) found (MoreItems j))
-        → (b : Bool) → (length i.rest == 0) ≡ b → (if b then Ok (done, i) else (function >>= λ one. items_from n (done ++ XsFunction one ∷ [])) i)
-        ≡ Ok (found, k) → GoesOn done found (MoreItems i)
-    by again true e h = let s =
-        same_outcome {E = Fault} done found i k h in ([], sym s.0 ∙ sym (append-nil done), nothing_left i.rest (eqb-true (length i.rest) 0 e))
-    by again false e h =
-        let p = bind_ok (function i) (λ one. items_from n (done ++ XsFunction one ∷ [])) (found, k) h in
-        let rest = again p.0 p.1 p.3 in
-        (XsFunction p.0 ∷ rest.0, rest.1 ∙ append_assoc done (XsFunction p.0 ∷ []) rest.0, function_sound i p.1 p.0 rest.0 p.2 rest.2)
-
-items_are : (found : List ItemTree) (file : FileTree) → ◌≡◌ {A = Result FileTree Fault} (Ok (record { model = model.Lp64; items = found })) (Ok file)
-    → file.items ≡ found
-items_are found file h = let same : record { model = model.Lp64; items = found } ≡ file = cc in ap (λ (f : FileTree). f.items) (sym same)
-
-tree_sound : (i : Input) (file : FileTree) → tree_of i ≡ Ok file → File file.items i.rest
-unfolding tree_of items
-tree_sound i file h =
-    let read = bound (items_from (left i) [] i) file_with file h in
-    let x = items_sound (left i) [] read.at.0 i read.at.1 read.was in
-    let all : File read.at.0 i.rest = rw x.1 x.2 in
-    subst (MoreItems i) (sym (items_are read.at.0 file read.then_is)) all
-
-file_sound : (kind : FileOf) (bytes : List ℕ) (file : FileTree) → file_of kind bytes ≡ Ok file → IsTextOf kind bytes file.items
+pub file_sound : (file : FileOf) (last : ℕ) (ts : List Token) (f : FileTree) → file_of file last ts ≡ Ok f → IsFile f ts × FitItems f.items
 unfolding file_of
-file_sound kind bytes file h =
-    let cut = bound (tokens_of kind bytes) (tree_in kind (early_end bytes)) file h in
-    record { all = cut.at; cut = cut.was; stands = tree_sound (record { rest = cut.at; file = kind; last = early_end bytes }) file cut.then_is }
+file_sound file last ts f h =
+    let read = bound (items_of (start true ts [] file last)) (file_with (defines_of ts)) f h in
+    let x = items_are (start true ts [] file last) (kept true ts) read.at refl read.was in
+    by f read.at read.then_is x.0 x.1
+  where
+    by : (f : FileTree) (all : List ItemTree) → file_with (defines_of ts) all ≡ Ok f → File [] all (kept true ts) → FitItems all → IsFile f ts
+        × FitItems f.items
+    by f all e x y =
+        let made : FileTree = record { model = model.Lp64; defines = defines_of ts; items = all } in
+        let same : made ≡ f = same_tree made f e in
+        subst (λ (t : FileTree). IsFile t ts × FitItems t.items) same (record { stands = x; defines = refl; of_model = refl }, y)
+      where
+        same_tree : (x y : FileTree) → ◌≡◌ {A = Result FileTree Fault} (Ok x) (Ok y) → x ≡ y
+        same_tree x y e = cc
 
--- What is read as a file is one by the rules.
-pub read_sound : (r : Result CFile Refuse) (kind : FileOf) (bytes : List ℕ) → GivesBy file_tree r (file_of kind bytes)
-    → IfOk r (λ file. IsTextOf kind bytes (file_tree file).items)
-read_sound (Ok x) kind bytes h = file_sound kind bytes (file_tree x) h
-read_sound (Err e) kind bytes h = tt
+-- ---- pieces
+
+abbrev SomeRest : List (List ℕ) → ℕ → List StmtTree → List Token → List Token → Type 0
+SomeRest types room all ts us = Rest types (stmts_of all) ts × (depths (stmts_of all) ≤ room) × (tallest_of (stmts_of all) ≤ max_nesting)
+
+rest_yields : (b : Input) (room n : ℕ) (sofar : List StmtTree) (ts : List Token)
+    → Yields b (rest_from (stmt room) n sofar (at b ts)) (Adds (SomeRest b.types room) sofar ts)
+unfolding rest_from at_end
+rest_yields b room zero sofar ts = fails _
+rest_yields b room (suc n) sofar [] = done sofar [] (adds_none sofar (s.rest_over, omega arith, omega arith))
+rest_yields b room (suc n) sofar (t ∷ ts) =
+    step _ _ (part_yields b (stmt room) room (stmt_yields b room) (t ∷ ts)) (λ one us x. weaken (rest_yields b room n (sofar ++ one ∷ []) us)
+    (λ found vs m. adds_more {R = SomeRest b.types room} sofar one m (λ added y. (s.rest_part x.0 y.0, omega (arith, x.1, y.1), omega (arith, x.2, y.2)))))
+
+pub block_sound : (file : FileOf) (last : ℕ) (types : List (List ℕ)) (around : ℕ) (ts : List Token) (all : List StmtTree)
+    → block_of file last types around ts ≡ Ok all → Rest types (stmts_of all) (kept false ts) × Fit (max_nesting - around) (stmts_of all)
+unfolding block_of
+block_sound file last types around ts all h =
+    let i : Input = start false ts types file last in
+    let read = bound (rest_of (max_nesting - around) i) first_of_pair all h in
+    let q = (rest_yields i (max_nesting - around) i.turns [] (kept false ts)).gives read.at.0 read.at.1 read.was in
+    by read.at.0 all read.then_is (adds_all q.2)
+  where
+    by : (x y : List StmtTree) → ◌≡◌ {A = Result (List StmtTree) Fault} (Ok x) (Ok y)
+        → SomeRest types (max_nesting - around) x (kept false ts) [] → Rest types (stmts_of y) (kept false ts) × Fit (max_nesting - around) (stmts_of y)
+    by x y e r = let same : x ≡ y = cc in rw (← same) (r.0, (r.1, r.2))
+
+-- what is read where nothing is left
+module _ {A : Type 0} (b : Input) (P : A → List Token → Type 0) where
+  at_the_end : (a x : A) (k : Input) (c : Bool) → c ≡ true → ◌≡◌ {A = Result A Fault} (if c then Ok a else Err (fault NO_READING_HERE k)) (Ok x) → a ≡ x
+  at_the_end a x k true e h = cc
+  at_the_end a x k false e h = absurd cc
+
+  not_at_the_end : (a x : A) (k : Input) (c : Bool) → c ≡ false → ◌≡◌ {A = Result A Fault} (if c then Ok a else Err (fault NO_READING_HERE k)) (Ok x) → ⊥
+  not_at_the_end a x k true e h = cc
+  not_at_the_end a x k false e h = cc
+
+  ended : (a x : A) (k : Input) (us : List Token) → k ≡ at b us → P a us
+      → ◌≡◌ {A = Result A Fault} (if at_end k then Ok a else Err (fault NO_READING_HERE k)) (Ok x) → P x []
+  unfolding at_end
+  ended a x k [] e p h = subst (λ (y : A). P y []) (at_the_end a x k (at_end k) (ap at_end e) h) p
+  ended a x k (u ∷ us) e p h = absurd (not_at_the_end a x k (at_end k) (ap at_end e) h)
+
+  whole_sound : (r : Outcome A) (x : A) → Yields b r P → whole_of r ≡ Ok x → P x []
+  whole_sound (Ok p) x y h = let q = y.gives p.0 p.1 refl in ended p.0 x p.1 q.0 q.1 q.2 h
+  whole_sound (Err e) x y h = absurd cc
+
+pub expr_sound : (file : FileOf) (last : ℕ) (types : List (List ℕ)) (around : ℕ) (ts : List Token) (a : ExprTree)
+    → expr_of file last types around ts ≡ Ok a → Whole types a (kept false ts) [] × (height a ≤ max_nesting - around)
+unfolding expr_of
+expr_sound file last types around ts a h =
+    let i : Input = start false ts types file last in
+    let read = bound (whole_of (expr (max_nesting - around) level.Whole i)) (λ found. Ok found.tree) a h in
+    by read.at a read.then_is
+    (whole_sound i (Stood (Whole types) (max_nesting - around) (kept false ts)) (expr (max_nesting - around) level.Whole i) read.at
+    (expr_yields i (max_nesting - around) level.Whole (kept false ts)) read.was)
+  where
+    by : (x : Found) (a : ExprTree) → ◌≡◌ {A = Result ExprTree Fault} (Ok x.tree) (Ok a)
+        → Stood (Whole types) (max_nesting - around) (kept false ts) x [] → Whole types a (kept false ts) [] × (height a ≤ max_nesting - around)
+    by x a e r = let same : x.tree ≡ a = cc in rw (← same) (r.stands, omega (arith, r.tall, r.within))
+
+abbrev SomeArguments : List (List ℕ) → ℕ → List ExprTree → List Token → List Token → Type 0
+SomeArguments types room all ts us = ArgumentList types all ts us × (heights (exprs_of all) ≤ room)
+
+args_yield : (b : Input) (room n : ℕ) (sofar : List ExprTree) (ts : List Token)
+    → Yields b (args_from room n sofar (at b ts)) (Adds (SomeArguments b.types room) sofar ts)
+unfolding args_from
+args_yield b room zero sofar ts = fails _
+args_yield b room (suc n) sofar ts =
+    step _ _ (expr_yields b room level.Whole ts)
+    (λ one us x. by_eat (Stood (Whole b.types) room ts one) (λ _. Adds (SomeArguments b.types room) sofar ts) (codes ",") us _ _ x
+    (λ u vs x' comma. weaken (args_yield b room n (sofar ++ one.tree ∷ []) vs)
+    (λ found ws m. adds_more {R = SomeArguments b.types room} sofar one.tree m
+    (λ added y. (s.more_arguments x'.stands comma y.0, omega (arith, x'.tall, x'.within, y.1)))))
+    (λ x' isnt. done (sofar ++ one.tree ∷ []) us (adds_last sofar one.tree (s.last_argument x'.stands, omega (arith, x'.tall, x'.within)))))
+
+some_args_yield : (b : Input) (room : ℕ) (ts : List Token) → Yields b (some_args room (at b ts)) (λ all us. SomeArguments b.types room all ts us)
+unfolding some_args
+some_args_yield b room ts = weaken (args_yield b room b.turns [] ts) (λ found us m. adds_all m)
+
+pub args_sound : (file : FileOf) (last : ℕ) (types : List (List ℕ)) (around : ℕ) (ts : List Token) (all : List ExprTree)
+    → args_of file last types around ts ≡ Ok all → AllArguments types all (kept false ts) × (heights (exprs_of all) ≤ max_nesting - around)
+unfolding args_of at_end
+args_sound file last types around ts all h =
+    by (kept false ts) all (some_args_yield (start false ts types file last) (max_nesting - around) (kept false ts)) h
+  where
+    none : (x y : List ExprTree) → ◌≡◌ {A = Result (List ExprTree) Fault} (Ok x) (Ok y) → x ≡ y
+    none x y e = cc
+
+    by : (us : List Token) (all : List ExprTree)
+        → Yields (start false ts types file last) (some_args (max_nesting - around) (at (start false ts types file last) us))
+        (λ xs vs. SomeArguments types (max_nesting - around) xs us vs)
+        → (if is_empty us then Ok [] else whole_of (some_args (max_nesting - around) (at (start false ts types file last) us))) ≡ Ok all
+        → AllArguments types all us × (heights (exprs_of all) ≤ max_nesting - around)
+    by [] all y e = let same : [] ≡ all = none [] all e in rw (← same) (s.no_arguments, omega arith)
+    by (u ∷ us) all y e =
+        let x = whole_sound (start false ts types file last) (λ xs vs. SomeArguments types (max_nesting - around) xs (u ∷ us) vs)
+        (some_args (max_nesting - around) (at (start false ts types file last) (u ∷ us))) all y e in
+        (s.arguments x.0, x.1)

@@ -1,143 +1,185 @@
 -- Further turns of the loops change nothing.
-use Rattle.std.proofs.Common.{◌≡◌, ℕ, zero, suc, ◌<◌, ◌≤◌, Bool, true, false, ◌==◌, if◌then◌else◌, List, [], ◌∷◌, ◌++◌, length, Ok, Err, refl, arith}
+use Rattle.std.proofs.Common.{◌≡◌, ℕ, zero, suc, ◌+◌, ◌<◌, Bool, true, false, if◌then◌else◌, ◌||◌, List, [], ◌∷◌, ◌++◌, length, Ok, Err, refl, ap, sym, ◌∙◌, arith}
 use Rattle.std.specs.Prelude.{codes}
-use Rattle.std.proofs.lemmas.Bool.Decides.{nat_tests}
-use Rattle.xs_base.specs.Readers.{tail, pure, and_then, ◌>>◌, ◌>>=◌}
+use Rattle.xs_base.specs.Readers.{◌>>=◌, and_then, head_is}
 use Rattle.xs_ctok.specs.declared.token.Token.{Token}
-use Rattle.xs_csyn.specs.declared.node.Level.{Level}
-use Rattle.xs_csyn.specs.declared.node.Level.TheVariants as level
-use Rattle.xs_csyn.specs.ExpressionReader.{Found, FoundAll, expr, list_from, with_node}
-use Rattle.xs_csyn.specs.StatementReader.{declaration, part, parts_from, stmt}
-use Rattle.xs_csyn.specs.FileReader.{function, items_from}
-use Rattle.xs_csyn.specs.SyntaxTree.{FunctionTree, ItemTree, StmtTree, XsFunction}
-use Rattle.xs_csyn.specs.TokenInput.{Input, Outcome, Reader, after, eat, expect, left, next, refuse, sees, sees_type}
-use Rattle.xs_csyn.proofs.ExpressionsSound.{expr_sound}
-use Rattle.xs_csyn.proofs.ExpressionsComplete.{whole_shrinks}
-use Rattle.xs_csyn.proofs.FilesSound.{declaration_sound, function_read, stmt_sound}
-use Rattle.xs_csyn.proofs.FilesComplete.{declaration_shrinks, parts_shrink, stmt_shrinks}
+use Rattle.xs_csyn.proofs.ExpressionsSound.{expr_yields}
+use Rattle.xs_csyn.proofs.FilesSound.{field_shrinks, field_yields, item_yields, parameter_yields}
+use Rattle.xs_csyn.proofs.Sizes.{declarator_shrinks, item_shrinks, label_shrinks, parameter_shrinks, part_shrinks, stmt_shrinks, whole_shrinks}
+use Rattle.xs_csyn.proofs.StatementsSound.{declarator_yields, group_shrinks, group_yields, label_yields, part_yields, stmt_yields}
+use Rattle.xs_csyn.proofs.Yields.{Yields, at}
+use Rattle.xs_cexpr.specs.ExpressionReader.{FoundAll, expr, list_from, with_node}
+use Rattle.xs_csyn.specs.FileReader.{fields_from, item, items_from, parameters_from, rest_from, with_types_of}
+use Rattle.xs_csyn.specs.Laws.{TurnsLaw}
+use Rattle.xs_cstmt.specs.StatementReader.{body_from, declarators_from, group, groups_from, labels_from, last_leaves, part, parts_from, sees_label, stmt}
+use Rattle.xs_cstmt.specs.StatementTree.{DeclaratorTree, GroupTree, StmtTree}
+use Rattle.xs_csyn.specs.FileTree.{ItemTree}
+use Rattle.xs_cinput.specs.TokenInput.{Input, Outcome, Reader, after, at_end, is_sign, next, refuse, sees}
+use Rattle.xs_cinput.specs.TypeReader.{stars_from}
+use Rattle.xs_cexpr.specs.declared.node.Level.TheVariants as level
+use Rattle.xs_cstmt.specs.declared.tree.Label.{Label}
+use Rattle.xs_csyn.specs.declared.tree.Par.{Par}
 
-tail_less : (ts : List Token) → length (tail ts) ≤ length ts
-tail_less [] = omega arith
-tail_less (t ∷ ts) = omega arith
+-- what a reading goes on with is the same
+same_after : {A C : Type 0} {b : Input} {P : A → List Token → Type 0} (r : Outcome A) (f g : A → Reader C) → Yields b r P
+    → ((a : A) (us : List Token) → P a us → f a (at b us) ≡ g a (at b us)) → and_then r f ≡ and_then r g
+same_after (Ok p) f g x h =
+    let q = x.gives p.0 p.1 refl in
+    ap (λ (j : Input). f p.0 j) q.1 ∙ (h p.0 q.0 q.2 ∙ sym (ap (λ (j : Input). g p.0 j) q.1))
+same_after (Err e) f g x h = refl
 
-next_less : (i : Input) → left (next i) ≤ left i
-unfolding left next
-next_less i = tail_less i.rest
+same_ways : {A : Type 0} (c : Bool) (p q p' q' : Reader A) (i j : Input) → (c ≡ true → p i ≡ p' i) → (c ≡ false → q j ≡ q' j)
+    → (if c then p else q) (if c then i else j) ≡ (if c then p' else q') (if c then i else j)
+same_ways true p q p' q' i j h k = h refl
+same_ways false p q p' q' i j h k = k refl
 
--- ---- arguments
+same_eat : {A : Type 0} (b : Input) (text : List ℕ) (ts : List Token) (p q p' q' : Reader A)
+    → ((us : List Token) → length us < length ts → p (at b us) ≡ p' (at b us)) → (head_is (is_sign text) ts ≡ false → q (at b ts) ≡ q' (at b ts))
+    → (if sees text (at b ts) then p else q) (after text (at b ts)) ≡ (if sees text (at b ts) then p' else q') (after text (at b ts))
+unfolding sees after next
+same_eat b text [] p q p' q' h k = k refl
+same_eat b text (u ∷ us) p q p' q' h k =
+    same_ways (is_sign text u) p q p' q' (at b us) (at b (u ∷ us)) (λ e. h us (omega arith)) (λ e. k e)
 
-module _ (inner : Level → Reader Found) (shrinks : (i k : Input) (f : Found) → inner level.Whole i ≡ Ok (f, k) → left k < left i) where
-  -- what follows one argument
-  abbrev more_list : ℕ → FoundAll → Found → Reader FoundAll
-  more_list n all one = eat (codes ",") >>= λ more. if more then list_from inner n (with_node all one) else (expect (codes ")") >> pure (with_node all one))
+same_if : {A : Type 0} (c : Bool) (x y z : A) → (c ≡ false → y ≡ z) → (if c then x else y) ≡ (if c then x else z)
+same_if true x y z h = refl
+same_if false x y z h = h refl
 
-  list_same : (n m : ℕ) (all : FoundAll) (i : Input) → left i < n → left i < m → list_from inner n all i ≡ list_from inner m all i
-  unfolding list_from after
-  list_same zero m all i h k = absurd (omega arith)
-  list_same (suc n) zero all i h k = absurd (omega arith)
-  list_same (suc n) (suc m) all i h k = by (λ one j a b. list_same n m (with_node all one) j a b) (inner level.Whole i) refl
-    where
-      by_comma : ((one : Found) (j : Input) → left j < n → left j < m → list_from inner n (with_node all one) j ≡ list_from inner m (with_node all one) j)
-          → (one : Found) (j : Input) → left j < left i → (b : Bool)
-          → (if b then list_from inner n (with_node all one) else (expect (codes ")") >> pure (with_node all one))) (if b then next j else j)
-          ≡ (if b then list_from inner m (with_node all one) else (expect (codes ")") >> pure (with_node all one))) (if b then next j else j)
-      by_comma again one j less true = again one (next j) (omega (arith, next_less j)) (omega (arith, next_less j))
-      by_comma again one j less false = refl
+same_then : {A : Type 0} (c : Bool) (x y z : A) → (c ≡ true → x ≡ y) → (if c then x else z) ≡ (if c then y else z)
+same_then true x y z h = h refl
+same_then false x y z h = refl
 
-      by : ((one : Found) (j : Input) → left j < n → left j < m → list_from inner n (with_node all one) j ≡ list_from inner m (with_node all one) j)
-          → (o : Outcome Found) → inner level.Whole i ≡ o → and_then o (more_list n all) ≡ and_then o (more_list m all)
-      by again (Ok p) is = by_comma again p.0 p.1 (shrinks i p.1 p.0 is) (sees (codes ",") p.1)
-      by again (Err e) is = refl
+same_choice : {A : Type 0} (c : Bool) (p q r : Reader A) (i : Input) → (c ≡ true → p i ≡ q i) → (if c then p else r) i ≡ (if c then q else r) i
+same_choice true p q r i h = h refl
+same_choice false p q r i h = refl
 
-expr_shrinks : (room : ℕ) (i k : Input) (f : Found) → expr room level.Whole i ≡ Ok (f, k) → left k < left i
-unfolding left
-expr_shrinks room i k f h = whole_shrinks (expr_sound room level.Whole i k f h)
+module _ (b : Input) where
+  pub stars_same : (n m k : ℕ) (ts : List Token) → length ts < n → length ts < m → stars_from n k (at b ts) ≡ stars_from m k (at b ts)
+  unfolding stars_from
+  stars_same zero m k ts h g = absurd (omega (arith, h))
+  stars_same (suc n) zero k ts h g = absurd (omega (arith, g))
+  stars_same (suc n) (suc m) k ts h g =
+      same_eat b (codes "*") ts _ _ _ _ (λ us less. stars_same n m (k + 1) us (omega (arith, h, less)) (omega (arith, g, less))) (λ isnt. refl)
 
-pub argument_turns : (room turns : ℕ) (all : FoundAll) (i : Input) → left i < turns
-    → list_from (expr room) turns all i ≡ list_from (expr room) (suc (left i)) all i
-argument_turns room turns all i h = list_same (expr room) (expr_shrinks room) turns (suc (left i)) all i h (omega arith)
+  pub list_same : (room n m : ℕ) (all : FoundAll) (ts : List Token) → length ts < n → length ts < m
+      → list_from (expr room) n all (at b ts) ≡ list_from (expr room) m all (at b ts)
+  unfolding list_from
+  list_same room zero m all ts h g = absurd (omega (arith, h))
+  list_same room (suc n) zero all ts h g = absurd (omega (arith, g))
+  list_same room (suc n) (suc m) all ts h g =
+      same_after _ _ _ (expr_yields b room level.Whole ts) (λ one us x. same_eat b (codes ",") us _ _ _ _
+      (λ vs less. list_same room n m (with_node all one) vs (omega (arith, h, less, whole_shrinks x.stands)) (omega (arith, g, less, whole_shrinks x.stands)))
+      (λ isnt. refl))
 
--- ---- what stands in a block
+  pub names_same : (n m : ℕ) (sofar : List DeclaratorTree) (ts : List Token) → length ts < n → length ts < m
+      → declarators_from n sofar (at b ts) ≡ declarators_from m sofar (at b ts)
+  unfolding declarators_from
+  names_same zero m sofar ts h g = absurd (omega (arith, h))
+  names_same (suc n) zero sofar ts h g = absurd (omega (arith, g))
+  names_same (suc n) (suc m) sofar ts h g =
+      same_after _ _ _ (declarator_yields b ts) (λ one us x. same_eat b (codes ",") us _ _ _ _
+      (λ vs less. names_same n m (sofar ++ one ∷ []) vs (omega (arith, h, less, declarator_shrinks x.0)) (omega (arith, g, less, declarator_shrinks x.0)))
+      (λ isnt. refl))
 
-module _ (inner : Reader StmtTree) (shrinks : (i k : Input) (s : StmtTree) → part inner i ≡ Ok (s, k) → left k < left i) where
-  parts_same : (n m : ℕ) (done : List StmtTree) (i : Input) → left i < n → left i < m → parts_from inner n done i ≡ parts_from inner m done i
-  unfolding parts_from after
-  parts_same zero m done i h k = absurd (omega arith)
-  parts_same (suc n) zero done i h k = absurd (omega arith)
-  parts_same (suc n) (suc m) done i h k = by_end (λ s j a b. parts_same n m (done ++ s ∷ []) j a b) (sees (codes "}") i)
-    where
-      by : ((s : StmtTree) (j : Input) → left j < n → left j < m → parts_from inner n (done ++ s ∷ []) j ≡ parts_from inner m (done ++ s ∷ []) j)
-          → (o : Outcome StmtTree) → part inner i ≡ o
-          → and_then o (λ s. parts_from inner n (done ++ s ∷ [])) ≡ and_then o (λ s. parts_from inner m (done ++ s ∷ []))
-      by again (Ok p) is = let less = shrinks i p.1 p.0 is in again p.0 p.1 (omega (arith, less)) (omega (arith, less))
-      by again (Err e) is = refl
+  pub labels_same : (n m : ℕ) (sofar : List Label) (ts : List Token) → length ts < n → length ts < m
+      → labels_from n sofar (at b ts) ≡ labels_from m sofar (at b ts)
+  unfolding labels_from
+  labels_same zero m sofar ts h g = absurd (omega (arith, h))
+  labels_same (suc n) zero sofar ts h g = absurd (omega (arith, g))
+  labels_same (suc n) (suc m) sofar ts h g =
+      same_after _ _ _ (label_yields b ts)
+      (λ one us x. same_then {A = Outcome (List Label)} (sees_label (at b us)) (labels_from n (sofar ++ one ∷ []) (at b us))
+      (labels_from m (sofar ++ one ∷ []) (at b us)) (Ok (sofar ++ one ∷ [], at b us))
+      (λ is. labels_same n m (sofar ++ one ∷ []) us (omega (arith, h, label_shrinks x)) (omega (arith, g, label_shrinks x))))
 
-      by_end : ((s : StmtTree) (j : Input) → left j < n → left j < m → parts_from inner n (done ++ s ∷ []) j ≡ parts_from inner m (done ++ s ∷ []) j)
-          → (b : Bool)
-          → (if b then pure done else (part inner >>= λ s. parts_from inner n (done ++ s ∷ []))) (if b then next i else i)
-          ≡ (if b then pure done else (part inner >>= λ s. parts_from inner m (done ++ s ∷ []))) (if b then next i else i)
-      by_end again true = refl
-      by_end again false = by again (part inner i) refl
+  pub parts_same : (room n m : ℕ) (sofar : List StmtTree) (ts : List Token) → length ts < n → length ts < m
+      → parts_from (stmt room) n sofar (at b ts) ≡ parts_from (stmt room) m sofar (at b ts)
+  unfolding parts_from
+  parts_same room zero m sofar ts h g = absurd (omega (arith, h))
+  parts_same room (suc n) zero sofar ts h g = absurd (omega (arith, g))
+  parts_same room (suc n) (suc m) sofar ts h g =
+      same_eat b (codes "}") ts _ _ _ _ (λ us less. refl)
+      (λ isnt. same_after _ _ _ (part_yields b (stmt room) room (stmt_yields b room) ts)
+      (λ one us x. parts_same room n m (sofar ++ one ∷ []) us (omega (arith, h, part_shrinks x.0)) (omega (arith, g, part_shrinks x.0))))
 
-part_shrinks : (room : ℕ) (i k : Input) (s : StmtTree) → part (stmt room) i ≡ Ok (s, k) → left k < left i
-unfolding part left
-part_shrinks room i k s h = by (sees_type i) h
-  where
-    by : (b : Bool) → (if b then declaration i else stmt room i) ≡ Ok (s, k) → length k.rest < length i.rest
-    by true h = declaration_shrinks (declaration_sound i k s h)
-    by false h = stmt_shrinks (stmt_sound room i k s h)
+  pub body_same : (room n m : ℕ) (sofar : List StmtTree) (ts : List Token) → length ts < n → length ts < m
+      → body_from (stmt room) n sofar (at b ts) ≡ body_from (stmt room) m sofar (at b ts)
+  unfolding body_from
+  body_same room zero m sofar ts h g = absurd (omega (arith, h))
+  body_same room (suc n) zero sofar ts h g = absurd (omega (arith, g))
+  body_same room (suc n) (suc m) sofar ts h g =
+      same_if {A = Outcome (List StmtTree)} (sees (codes "}") (at b ts) || sees_label (at b ts)) (Ok (sofar, at b ts))
+      (and_then (stmt room (at b ts)) (λ one. body_from (stmt room) n (sofar ++ one ∷ [])))
+      (and_then (stmt room (at b ts)) (λ one. body_from (stmt room) m (sofar ++ one ∷ []))) (λ isnt. same_after _ _ _ (stmt_yields b room ts)
+      (λ one us x. body_same room n m (sofar ++ one ∷ []) us (omega (arith, h, stmt_shrinks x.0)) (omega (arith, g, stmt_shrinks x.0))))
 
-pub part_turns : (room turns : ℕ) (done : List StmtTree) (i : Input) → left i < turns
-    → parts_from (stmt room) turns done i ≡ parts_from (stmt room) (suc (left i)) done i
-part_turns room turns done i h = parts_same (stmt room) (part_shrinks room) turns (suc (left i)) done i h (omega arith)
+  pub groups_same : (room n m : ℕ) (may : Bool) (sofar : List GroupTree) (ts : List Token) → length ts < n → length ts < m
+      → groups_from (stmt room) n may sofar (at b ts) ≡ groups_from (stmt room) m may sofar (at b ts)
+  unfolding groups_from
+  groups_same room zero m may sofar ts h g = absurd (omega (arith, h))
+  groups_same room (suc n) zero may sofar ts h g = absurd (omega (arith, g))
+  groups_same room (suc n) (suc m) may sofar ts h g =
+      same_eat b (codes "}") ts _ _ _ _ (λ us less. refl)
+      (λ isnt. same_choice may (group (stmt room) >>= λ one. groups_from (stmt room) n (last_leaves false one.body) (sofar ++ one ∷ []))
+      (group (stmt room) >>= λ one. groups_from (stmt room) m (last_leaves false one.body) (sofar ++ one ∷ [])) refuse (at b ts)
+      (λ is. same_after _ _ _ (group_yields b (stmt room) room (stmt_yields b room) ts)
+      (λ one us x. groups_same room n m (last_leaves false one.body) (sofar ++ one ∷ []) us (omega (arith, h, group_shrinks x)) (omega
+      (arith, g, group_shrinks x)))))
 
--- ---- functions
+  pub fields_same : (n m : ℕ) (sofar : List Par) (ts : List Token) → length ts < n → length ts < m
+      → fields_from n sofar (at b ts) ≡ fields_from m sofar (at b ts)
+  unfolding fields_from
+  fields_same zero m sofar ts h g = absurd (omega (arith, h))
+  fields_same (suc n) zero sofar ts h g = absurd (omega (arith, g))
+  fields_same (suc n) (suc m) sofar ts h g =
+      same_eat b (codes "}") ts _ _ _ _ (λ us less. refl)
+      (λ isnt. same_after _ _ _ (field_yields b ts)
+      (λ one us x. fields_same n m (sofar ++ one ∷ []) us (omega (arith, h, field_shrinks x)) (omega (arith, g, field_shrinks x))))
 
-function_shrinks : (i k : Input) (f : FunctionTree) → function i ≡ Ok (f, k) → left k < left i
-unfolding left
-function_shrinks i k f h =
-    let ts = i.rest in
-    omega (
-      arith,
-      parts_shrink (function_read i k f h).parts,
-      tail_less ts,
-      tail_less (tail ts),
-      tail_less (tail (tail ts)),
-      tail_less (tail (tail (tail ts))),
-      tail_less (tail (tail (tail (tail ts)))),
-    )
+  pub parameters_same : (n m : ℕ) (sofar : List Par) (ts : List Token) → length ts < n → length ts < m
+      → parameters_from n sofar (at b ts) ≡ parameters_from m sofar (at b ts)
+  unfolding parameters_from
+  parameters_same zero m sofar ts h g = absurd (omega (arith, h))
+  parameters_same (suc n) zero sofar ts h g = absurd (omega (arith, g))
+  parameters_same (suc n) (suc m) sofar ts h g =
+      same_after _ _ _ (parameter_yields b ts) (λ one us x. same_eat b (codes ",") us _ _ _ _
+      (λ vs less. parameters_same n m (sofar ++ one ∷ []) vs (omega (arith, h, less, parameter_shrinks x)) (omega (arith, g, less, parameter_shrinks x)))
+      (λ isnt. refl))
 
-items_same : (n m : ℕ) (done : List ItemTree) (i : Input) → left i ≤ n → left i ≤ m → items_from n done i ≡ items_from m done i
+  pub rest_same : (room n m : ℕ) (sofar : List StmtTree) (ts : List Token) → length ts < n → length ts < m
+      → rest_from (stmt room) n sofar (at b ts) ≡ rest_from (stmt room) m sofar (at b ts)
+  unfolding rest_from
+  rest_same room zero m sofar ts h g = absurd (omega (arith, h))
+  rest_same room (suc n) zero sofar ts h g = absurd (omega (arith, g))
+  rest_same room (suc n) (suc m) sofar ts h g =
+      same_if {A = Outcome (List StmtTree)} (at_end (at b ts)) (Ok (sofar, at b ts))
+      (and_then (part (stmt room) (at b ts)) (λ one. rest_from (stmt room) n (sofar ++ one ∷ [])))
+      (and_then (part (stmt room) (at b ts)) (λ one. rest_from (stmt room) m (sofar ++ one ∷ [])))
+      (λ isnt. same_after _ _ _ (part_yields b (stmt room) room (stmt_yields b room) ts)
+      (λ one us x. rest_same room n m (sofar ++ one ∷ []) us (omega (arith, h, part_shrinks x.0)) (omega (arith, g, part_shrinks x.0))))
+
+pub items_same : (n m : ℕ) (b : Input) (sofar : List ItemTree) (ts : List Token) → length ts < n → length ts < m
+    → items_from n sofar (at b ts) ≡ items_from m sofar (at b ts)
 unfolding items_from
-items_same zero zero done i h k = refl
-items_same zero (suc m) done i h k = by (left i == 0) refl
-  where
-    by : (b : Bool) → (left i == 0) ≡ b
-        → (if b then Ok (done, i) else refuse i) ≡ (if b then Ok (done, i) else (function >>= λ one. items_from m (done ++ XsFunction one ∷ [])) i)
-    by true e = refl
-    by false e = absurd (grind (arith, nat_tests))
-items_same (suc n) zero done i h k = by (left i == 0) refl
-  where
-    by : (b : Bool) → (left i == 0) ≡ b
-        → (if b then Ok (done, i) else (function >>= λ one. items_from n (done ++ XsFunction one ∷ [])) i) ≡ (if b then Ok (done, i) else refuse i)
-    by true e = refl
-    by false e = absurd (grind (arith, nat_tests))
-items_same (suc n) (suc m) done i h k = by_end (λ one j a b. items_same n m (done ++ XsFunction one ∷ []) j a b) (left i == 0)
-  where
-    by : ((one : FunctionTree) (j : Input) → left j ≤ n → left j ≤ m
-        → items_from n (done ++ XsFunction one ∷ []) j ≡ items_from m (done ++ XsFunction one ∷ []) j)
-        → (o : Outcome FunctionTree) → function i ≡ o
-        → and_then o (λ one. items_from n (done ++ XsFunction one ∷ [])) ≡ and_then o (λ one. items_from m (done ++ XsFunction one ∷ []))
-    by again (Ok p) is = let less = function_shrinks i p.1 p.0 is in again p.0 p.1 (omega (arith, less)) (omega (arith, less))
-    by again (Err e) is = refl
+items_same zero m b sofar ts h g = absurd (omega (arith, h))
+items_same (suc n) zero b sofar ts h g = absurd (omega (arith, g))
+items_same (suc n) (suc m) b sofar ts h g =
+    same_if {A = Outcome (List ItemTree)} (at_end (at b ts)) (Ok (sofar, at b ts))
+    (and_then (item (at b ts)) (λ one j. items_from n (sofar ++ one ∷ []) (with_types_of one j)))
+    (and_then (item (at b ts)) (λ one j. items_from m (sofar ++ one ∷ []) (with_types_of one j))) (λ isnt. same_after _ _ _ (item_yields b ts)
+    (λ one us x. items_same n m (with_types_of one b) (sofar ++ one ∷ []) us (omega (arith, h, item_shrinks x.0)) (omega (arith, g, item_shrinks x.0))))
 
-    by_end : ((one : FunctionTree) (j : Input) → left j ≤ n → left j ≤ m
-        → items_from n (done ++ XsFunction one ∷ []) j ≡ items_from m (done ++ XsFunction one ∷ []) j)
-        → (b : Bool)
-        → (if b then Ok (done, i) else (function >>= λ one. items_from n (done ++ XsFunction one ∷ [])) i)
-        ≡ (if b then Ok (done, i) else (function >>= λ one. items_from m (done ++ XsFunction one ∷ [])) i)
-    by_end again true = refl
-    by_end again false = by again (function i) refl
-
-pub item_turns : (turns : ℕ) (done : List ItemTree) (i : Input) → left i ≤ turns → items_from turns done i ≡ items_from (left i) done i
-item_turns turns done i h = items_same turns (left i) done i h (omega arith)
+pub turns_law : TurnsLaw
+turns_law = record {
+  stars = λ turns n i h. stars_same i turns (suc (length i.rest)) n i.rest h (omega arith);
+  arguments = λ room turns all i h. list_same i room turns (suc (length i.rest)) all i.rest h (omega arith);
+  names = λ turns sofar i h. names_same i turns (suc (length i.rest)) sofar i.rest h (omega arith);
+  labels = λ turns sofar i h. labels_same i turns (suc (length i.rest)) sofar i.rest h (omega arith);
+  parts = λ room turns sofar i h. parts_same i room turns (suc (length i.rest)) sofar i.rest h (omega arith);
+  bodies = λ room turns sofar i h. body_same i room turns (suc (length i.rest)) sofar i.rest h (omega arith);
+  groups = λ room turns may sofar i h. groups_same i room turns (suc (length i.rest)) may sofar i.rest h (omega arith);
+  fields = λ turns sofar i h. fields_same i turns (suc (length i.rest)) sofar i.rest h (omega arith);
+  parameters = λ turns sofar i h. parameters_same i turns (suc (length i.rest)) sofar i.rest h (omega arith);
+  pieces = λ room turns sofar i h. rest_same i room turns (suc (length i.rest)) sofar i.rest h (omega arith);
+  items = λ turns sofar i h. items_same turns (suc (length i.rest)) i sofar i.rest h (omega arith);
+}

@@ -1,9 +1,9 @@
-pub mod SyntaxTree
-pub mod TreeViews
-pub mod TokenInput
-pub mod ExpressionReader
-pub mod StatementReader
+pub mod FileTree
 pub mod FileReader
-pub mod GlueGrammar
-pub mod Heights
+pub mod FileViews
+pub mod Grammar
+pub mod StatementGrammar
+pub mod FileGrammar
+pub mod FileHeights
 pub mod Laws
+pub mod Prefixes

@@ -1,16 +1,17 @@
-//! The C grammar of glue text: its trees, and the reader that makes them.
+//! The grammar of C text: its trees, and the reader that makes them.
 #![tactic(auto)]
 
-mod building;
-mod cursor;
-mod exprs;
+mod declared_types;
 mod file;
 mod laws;
-mod node;
-mod stmts;
 mod tree;
 
-pub use file::read_file;
-pub use laws::turns_law;
-pub use stmts::if_of;
-pub use tree::{BinaryOp, CFile, CType, Expr, FileItem, PerlForm, Place, Stmt, XsFun};
+pub use declared_types::type_names;
+pub use file::{read_args, read_block, read_expr, read_file};
+pub use laws::{complete_law, sound_law, turns_law, unique_law};
+pub use tree::{CFile, Define, FileItem, Function, Head, Par, Record, Typedef, XsFun};
+pub use xs_cexpr::{Expr, Place};
+pub use xs_cinput::{BinaryOp, CType, Step, TypeNames};
+pub use xs_cstmt::{
+    Declarator, Declared, First, ForHead, Group, Label, PerlForm, PerlWord, Stmt, if_of,
+};

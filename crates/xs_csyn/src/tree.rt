@@ -1,79 +1,60 @@
-//! The trees of the C grammar. Each node has the line of its first token, counted from 1.
+//! The trees of files. Each node has the line of its first token.
 
 use xs_base::{Bytes, Items};
+use xs_cinput::CType;
+use xs_cstmt::Stmt;
+use xs_ctok::Literal;
 use xs_values::DataModel;
 
-/// An operator with two operands.
-#[derive(Clone, Copy, Debug, PartialEq, Eq)]
-pub enum BinaryOp {
-    /// `+`
-    Add,
-    /// `!=`
-    NotEqual,
-}
-
-/// A type as it is spelt: a type word, and the number of `*` after it.
+/// A type and the name with it: a field of a record, or a parameter.
 #[derive(Debug, Drop)]
-pub struct CType {
+pub struct Par {
+    /// The line of the name.
+    pub line: u32,
+    pub of_type: CType,
     pub name: Bytes,
-    pub stars: u32,
 }
 
-/// An expression.
-#[cycle(tree)]
+/// `#define NAME INT`
 #[derive(Debug, Drop)]
-pub enum Expr {
-    /// A name that stands for a value.
-    Name(u32, Bytes),
-    /// An integer literal with its value.
-    Int(u32, u64),
-    /// A text in quotes, without them.
-    Text(u32, Bytes),
-    /// A call: the name of what is called, and the arguments in order.
-    Call(u32, Bytes, Vec<Expr>),
-    /// `PLACE = EXPR`
-    Assign(u32, Place, Box<Expr>),
-    /// Two operands with an operator between them, the left one first.
-    Binary(u32, BinaryOp, Box<Expr>, Box<Expr>),
-    /// `(TYPE)EXPR`
-    Cast(u32, CType, Box<Expr>),
+pub struct Define {
+    pub line: u32,
+    pub name: Bytes,
+    pub literal: Literal,
 }
 
-/// What can be assigned to.
-#[cycle(tree)]
+/// `typedef TYPE NAME;`
 #[derive(Debug, Drop)]
-pub enum Place {
-    /// A variable by its name.
-    Variable(u32, Bytes),
-    /// `ST(EXPR)`, a place of the argument list (perlxs).
-    St(u32, Box<Expr>),
+pub struct Typedef {
+    pub line: u32,
+    pub of_type: CType,
+    pub name: Bytes,
+    pub name_line: u32,
 }
 
-/// A word of the XS interface that is a whole statement (perlxs, perlapi).
+/// `typedef struct { TYPE NAME; .. } NAME;`
 #[derive(Debug, Drop)]
-pub enum PerlForm {
-    /// `dXSARGS;`, which begins each XS function.
-    DxsArgs,
-    /// `XSRETURN_YES;`
-    XsReturnYes,
-    /// `newXS_deffile("FULL", FUNCTION);`, which registers the XS function of a C name under a full
-    /// Perl name.
-    NewXs { full: Bytes, function: Bytes },
+pub struct Record {
+    pub line: u32,
+    pub fields: Items<Par>,
+    pub name: Bytes,
+    pub name_line: u32,
 }
 
-/// A statement or a declaration.
+/// What stands before the body of a function.
 #[derive(Debug, Drop)]
-pub enum Stmt {
-    /// `{ .. }`
-    Block(u32, Vec<Stmt>),
-    /// `TYPE NAME;`
-    Declare(u32, CType, Bytes),
-    /// `EXPR;`
-    Effect(u32, Expr),
-    /// `if (EXPR) STATEMENT`
-    If(u32, Expr, Box<Stmt>),
-    /// A statement that is a word of the XS interface.
-    Perl(u32, PerlForm),
+pub struct Head {
+    pub line: u32,
+    pub result: CType,
+    pub name: Bytes,
+    pub pars: Items<Par>,
+}
+
+/// A function with its body.
+#[derive(Debug, Drop)]
+pub struct Function {
+    pub head: Head,
+    pub body: Vec<Stmt>,
 }
 
 /// `XS(NAME) { .. }`: the C name of an XS function and its statements.
@@ -87,6 +68,11 @@ pub struct XsFun {
 /// What stands at the outer level of a file.
 #[derive(Debug, Drop)]
 pub enum FileItem {
+    Typedef(Typedef),
+    Record(Record),
+    /// `TYPE NAME(..);`, which has no effect.
+    Prototype(Head),
+    Function(Function),
     XsFun(XsFun),
 }
 
@@ -94,5 +80,6 @@ pub enum FileItem {
 #[derive(Debug, Drop)]
 pub struct CFile {
     pub model: DataModel,
+    pub defines: Items<Define>,
     pub items: Items<FileItem>,
 }

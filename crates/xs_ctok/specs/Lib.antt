@@ -1,5 +1,11 @@
-pub mod Lexemes
-pub mod Pieces
 pub mod CWords
+pub mod Numerals
+pub mod FrontSizes
+pub mod QuotedTexts
+pub mod Punctuators
+pub mod Directives
+pub mod Fronts
 pub mod Tokens
+pub mod TokenSpelling
+pub mod LineSpelling
 pub mod Laws

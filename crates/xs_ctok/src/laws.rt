@@ -1,34 +1,43 @@
 //! Laws of the definitions, for all texts.
+ghost use Rattle.xs_ctok.specs.Laws.{CodesLaw, JoinedLaw, PlacedLaw, RelinedLaw, SpelledLaw, SuffixLaw};
 
-ghost use Rattle.xs_ctok.specs.Laws.{CommentsLaw, DigitsLaw, NumberLaw, PassedLaw, PiecesLaw, WideLaw, WordLaw};
-
-/// A text in pieces is cut into tokens without a look into its names, its parts of texts in quotes,
-/// its blanks and its lines that are passed over.
-#[tactic(auto, using(crate::proofs::LexemeRuns::run_spelled))]
-pub fn pieces_law()
-    ensures { PiecesLaw }
+/// Lines that have tokens add these to the tokens of the lines after them, and lines that have them
+/// alone have them together.
+#[tactic(auto, using(crate::proofs::JoinedLines::joined_law))]
+pub fn joined_law()
+    ensures { JoinedLaw }
 {}
 
-/// At the head of a line, one that is passed over gives no token, and leads to the head of the
-/// next.
-#[tactic(auto, using(crate::proofs::Passed::passed_line_runs))]
-pub fn passed_law()
-    ensures { PassedLaw }
+/// Lines with the same texts have the same tokens but for the numbers of the lines, or faults of
+/// the same code.
+#[tactic(auto, using(crate::proofs::OtherLines::relined))]
+pub fn relined_law()
+    ensures { RelinedLaw }
 {}
 
-/// What a number is written as is one word with that value, a decimal integer of more than 64 bits
-/// is refused, and a word that begins with no digit is a keyword or an identifier.
-#[tactic(auto, using(crate::proofs::WordKinds::word_kind_decimal, crate::proofs::WordKinds::is_name_decimal, crate::proofs::WordKinds::wide_word, crate::proofs::WordKinds::word_kind_word))]
-pub fn words_law()
-    ensures digits { DigitsLaw }
-    ensures number { NumberLaw }
-    ensures wide { WideLaw }
-    ensures word { WordLaw }
+/// The tokens of lines are just those that the rules of their spelling give, each the longest that
+/// begins at its byte, and the fault of lines is at the first byte at which no token begins, or at
+/// the line where a comment begins that stays open.
+#[tactic(auto, using(crate::proofs::LinesSpelled::spelled_law))]
+pub fn spelled_law()
+    ensures { SpelledLaw }
 {}
 
-/// Blanks and whole comments may follow PERL_NO_GET_CONTEXT
-/// on its line.
-#[tactic(auto, using(crate::proofs::Comments::comments_over))]
-pub fn comments_law()
-    ensures { CommentsLaw }
+/// Each token of a line stands there at its column, after the token before it.
+#[tactic(auto, using(crate::proofs::LinesSpelled::placed_law))]
+pub fn placed_law()
+    ensures { PlacedLaw }
+{}
+
+/// The suffix of an integer is the longest that stands there.
+#[tactic(auto, using(crate::proofs::LongestSuffixes::suffix_law))]
+pub fn suffix_law()
+    ensures { SuffixLaw }
+{}
+
+/// The codes of faults, where they do not follow from what begins at a place: integers of more than
+/// 64 bits, floating constants, texts in quotes and misplaced directives.
+#[tactic(auto, using(crate::proofs::CodesTold::codes_law))]
+pub fn codes_law()
+    ensures { CodesLaw }
 {}

@@ -1,342 +1,190 @@
-//! C text is cut into tokens, a byte at a time.
+//! C text is cut into tokens, line by line.
+ghost use Rattle.std.specs.Option.{option_to_list};
+ghost use Rattle.std.specs.Prelude.{◌≡◌, ◌+◌, ◌-◌, ◌^◌, ◌<◌, ◌≤◌, ◌++◌, IfOk, OnOk, length, true};
+ghost use Rattle.xs_base.specs.Reading.{Gives};
+ghost use Rattle.xs_ctok.specs.Tokens as spec;
+ghost use Rattle.xs_ctok.specs.Tokens.{Cuts};
 
-ghost use Rattle.std.specs.Prelude.{◌≡◌, ◌+◌, ◌-◌, ◌^◌, ◌<◌, ◌≤◌, IfOk, List, [], false, length, true};
-ghost use Rattle.xs_base.specs.Reading.{Gives, fault_in};
-ghost use Rattle.xs_ctok.specs.Lexemes as spec;
-ghost use Rattle.xs_ctok.specs.Tokens as tokens;
-ghost use Rattle.xs_ctok.specs.Tokens.{Adds, Begins, Moves};
-ghost use Rattle.xs_ctok.specs.CWords as words;
-ghost use Rattle.xs_ctok.specs.declared.state.Mode.TheVariants as mode;
-ghost use Rattle.xs_ctok.specs.declared.token.TokKind.TheVariants as kind;
-ghost use Rattle.xs_ctok.specs.declared.token.Token.{Token};
-ghost use Rattle.xs_base.specs.declared.fault.Refuse.TheVariants as refuse;
-
-use crate::directives::directive_fault;
-use crate::state::{Mode, State};
+use crate::front::{Front, front_at};
 use crate::token::{TokKind, Token};
-use crate::words::word_kind;
 use std::alloc::Global;
-use xs_base::fault_codes::{LITERAL_TOO_WIDE, OPEN_COMMENT_OR_TEXT, STRAY_BYTE};
-use xs_base::{Bytes, Fault, FileOf, Items, Memory, Refuse, is_blank, is_word_byte};
+use xs_base::fault_codes::OPEN_COMMENT_OR_TEXT;
+use xs_base::{Bytes, Fault, FileOf, Items, Line, Memory, Refuse, Span, starts_with};
 
-/// The bytes that punctuators are made of (C11 6.4.6, without those of `#`).
-pub const SIGN_BYTES: [u8; 24] = [
-    b'!', b'%', b'&', b'(', b')', b'*', b'+', b',', b'-', b'.', b'/', b':', b';', b'<', b'=', b'>',
-    b'?', b'[', b']', b'^', b'{', b'|', b'}', b'~',
-];
-
-/// The bytes that make one punctuator with a `=` after them.
-pub const BEFORE_EQUALS: [u8; 12] = [
-    b'!', b'%', b'&', b'*', b'+', b'-', b'/', b'<', b'=', b'>', b'^', b'|',
-];
-
-/// The bytes that make one punctuator with the same byte after them, but for `=`.
-pub const DOUBLED: [u8; 6] = [b'&', b'+', b'-', b'<', b'>', b'|'];
-
-fn is_one_of(bytes: &[u8], b: u8) -> bool
-    ensures { result ≡ spec.is_one_of bytes.now b }
-{
-    bytes.iter().any(|c| b == *c)
+/// What is open on a line.
+#[derive(Clone, Copy, Debug, PartialEq, Eq)]
+pub enum Mode {
+    /// Nothing, and only blanks stand on the line so far.
+    Fresh,
+    /// Nothing.
+    Between,
+    /// A comment that was opened on this line of the text.
+    Inside(u32),
 }
 
-fn is_double(a: u8, b: u8) -> bool
-    ensures { result ≡ spec.is_double a b }
-{
-    b == b'=' && is_one_of(&BEFORE_EQUALS, a)
-        || a == b && is_one_of(&DOUBLED, a)
-        || a == b'-' && b == b'>'
+/// A step over some bytes of a line: the token that they are, if they are one, what is open after
+/// them, and how many they are.
+#[derive(Debug, Drop)]
+pub struct Moved {
+    pub token: Option<Token>,
+    pub mode: Mode,
+    pub len: usize,
 }
 
-fn fault(alloc: Global, file: FileOf, code: u16, line: u32) -> Refuse
-    ensures { result ≡ refuse.Fault (fault_in file line code []) }
+fn passed(mode: Mode, len: usize) -> Moved
+    ensures { result ≡ spec.passed mode len }
 {
-    Refuse::Fault(Fault::bare(alloc, file, line, code))
-}
-
-fn word_token(alloc: Global, file: FileOf, line: u32, text: Bytes) -> Result<Token, Refuse>
-    ensures { Gives result (tokens.word_token file line text (words.word_kind text)) }
-{
-    match word_kind(text.as_slice()) {
-        Some(kind) => Ok(Token { kind, text, line }),
-        None => Err(fault(alloc, file, LITERAL_TOO_WIDE, line)),
+    Moved {
+        token: None,
+        mode,
+        len,
     }
 }
 
-/// A punctuator that stands on a line.
-fn sign(alloc: Global, line: u32, text: &[u8]) -> Result<Token, Memory>
-    ensures { IfOk result (λ t. t ≡ tokens.token kind.Sign line text.now) }
+fn token_at(alloc: Global, kind: TokKind, span: Span, text: &[u8]) -> Result<Token, Memory>
+    ensures { IfOk result (λ token. token ≡ spec.token_at kind span text.now) }
 {
-    Ok(Token {
-        kind: TokKind::Sign,
-        text: Bytes::from_slice(alloc, text)?,
-        line,
-    })
+    let text = Bytes::from_slice(alloc, text)?;
+    Ok(Token { kind, text, span })
 }
 
-fn at_line(line: u32, mode: Mode) -> State
-    ensures { result ≡ spec.at_line line mode }
-{
-    State { mode, line }
-}
-
-/// The state after a byte with which nothing was open.
-#[tactic(auto, unfolding(crate::specs::Lexemes::begin))]
-fn begin(alloc: Global, file: FileOf, line: u32, b: u8) -> Result<State, Refuse>
-    requires { line + 1 < 2 ^ 32 }
-    ensures state { Begins file line result (spec.begin line b) }
-    ensures line { IfOk result (λ s. s.line ≤ line + 1) }
-{
-    if is_word_byte(b) {
-        let word = Bytes::from_slice(alloc, &[b])?;
-        Ok(at_line(line, Mode::Word(word)))
-    } else if is_blank(b) {
-        Ok(at_line(line, Mode::Between))
-    } else if b == b'\n' {
-        Ok(at_line(line + 1, Mode::Fresh))
-    } else if b == b'\r' {
-        Ok(at_line(line, Mode::Return))
-    } else if b == b'"' {
-        Ok(at_line(line, Mode::Text(Bytes::new(alloc))))
-    } else if is_one_of(&SIGN_BYTES, b) {
-        Ok(at_line(line, Mode::Mark(b)))
-    } else {
-        Err(fault(alloc, file, STRAY_BYTE, line))
-    }
-}
-
-/// The state after a byte with which only blanks stood on the line.
-fn step_fresh(alloc: Global, file: FileOf, line: u32, b: u8) -> Result<State, Refuse>
-    requires { line + 1 < 2 ^ 32 }
-    ensures read { (out : List Token) → Moves file (spec.freshly line b) out result out }
-    ensures line { IfOk result (λ s. s.line ≤ line + 1) }
-{
-    if is_blank(b) {
-        Ok(at_line(line, Mode::Fresh))
-    } else if b == b'#' {
-        Ok(at_line(line, Mode::Directive(Bytes::new(alloc))))
-    } else {
-        begin(alloc, file, line, b)
-    }
-}
-
-/// The end of a directive, after which a byte 10 or the end of the text follows.
-fn end_directive(
+// The step over what stands at the front of a line's rest, where no comment is open.
+fn step_on(
     alloc: Global,
     file: FileOf,
-    line: u32,
-    followed: bool,
-    bytes: &[u8],
-) -> Result<(), Refuse>
-    ensures { (out : List Token)
-        → Adds file (spec.faulted line (spec.directive_fault followed bytes.now)) out result out }
+    span: Span,
+    mode: Mode,
+    text: &[u8],
+) -> Result<Moved, Refuse>
+    requires { 0 < length text.now }
+    ensures read { Gives result (spec.step_on file span mode text.now) }
+    ensures within { IfOk result (λ m. spec.FitsStep m (length text.now)) }
 {
-    match directive_fault(followed, bytes) {
+    match front_at(alloc, mode == Mode::Fresh, text)? {
+        Front::Blank => Ok(passed(mode, 1)),
+        Front::LineComment => Ok(passed(Mode::Between, text.len())),
+        Front::Comment => Ok(passed(Mode::Inside(span.line), 2)),
+        Front::Piece(kind, len) => {
+            let token = token_at(alloc, kind, span, text.split_at(len).0)?;
+            Ok(Moved {
+                token: Some(token),
+                mode: Mode::Between,
+                len,
+            })
+        }
+        Front::Refused(code) => Err(Refuse::Fault(Fault::bare(alloc, file, span.line, code))),
+    }
+}
+
+// The step in a comment.
+#[tactic(auto, using(crate::proofs::RunSizes::close_size))]
+fn step_inside(opened: u32, text: &[u8]) -> Moved
+    requires { 0 < length text.now }
+    ensures value { result ≡ spec.step_inside opened text.now }
+    ensures within { spec.FitsStep result (length text.now) }
+{
+    if starts_with(b"*/", text) {
+        passed(Mode::Between, 2)
+    } else {
+        passed(Mode::Inside(opened), 1)
+    }
+}
+
+// The next step on a line.
+fn step(alloc: Global, file: FileOf, span: Span, mode: Mode, text: &[u8]) -> Result<Moved, Refuse>
+    requires { 0 < length text.now }
+    ensures read { Gives result (spec.step file span mode text.now) }
+    ensures within { IfOk result (λ m. spec.FitsStep m (length text.now)) }
+{
+    match mode {
+        Mode::Inside(opened) => Ok(step_inside(opened, text)),
+        Mode::Fresh | Mode::Between => step_on(alloc, file, span, mode, text),
+    }
+}
+
+fn push_some(out: &mut Items<Token>, token: Option<Token>) -> Result<(), Memory>
+    ensures { OnOk result (out.new ≡ out.old ++ option_to_list token) }
+{
+    match token {
+        Some(token) => out.push(token),
         None => Ok(()),
-        Some(code) => Err(fault(alloc, file, code, line)),
     }
 }
 
-/// The state after the line end of a directive.
-fn next_line(alloc: Global, file: FileOf, line: u32, bytes: &[u8]) -> Result<State, Refuse>
-    requires { line + 1 < 2 ^ 32 }
-    ensures read { (out : List Token)
-        → Moves file (spec.after (spec.faulted line (spec.directive_fault true bytes.now))
-        (spec.moved (line + 1) mode.Fresh)) out result out }
-    ensures line { IfOk result (λ s. s.line ≤ line + 1) }
+fn begun(opened: Option<u32>) -> Mode
+    ensures { result ≡ spec.begun opened }
 {
-    end_directive(alloc, file, line, true, bytes)?;
-    Ok(at_line(line + 1, Mode::Fresh))
-}
-
-fn step_directive(
-    alloc: Global,
-    file: FileOf,
-    line: u32,
-    mut bytes: Bytes,
-    b: u8,
-) -> Result<State, Refuse>
-    requires { line + 1 < 2 ^ 32 }
-    ensures read { (out : List Token)
-        → Moves file (spec.step_at (mode.Directive bytes) line b) out result out }
-    ensures line { IfOk result (λ s. s.line ≤ line + 1) }
-{
-    if b == b'\n' {
-        return next_line(alloc, file, line, bytes.as_slice());
-    }
-    bytes.append(&[b])?;
-    Ok(at_line(line, Mode::Directive(bytes)))
-}
-
-fn step_word(
-    alloc: Global,
-    out: &mut Items<Token>,
-    file: FileOf,
-    line: u32,
-    mut word: Bytes,
-    b: u8,
-) -> Result<State, Refuse>
-    requires { line + 1 < 2 ^ 32 }
-    ensures read { Moves file (spec.step_at (mode.Word word) line b) out.old result out.new }
-    ensures line { IfOk result (λ s. s.line ≤ line + 1) }
-{
-    if is_word_byte(b) {
-        word.append(&[b])?;
-        return Ok(at_line(line, Mode::Word(word)));
-    }
-    out.push(word_token(alloc, file, line, word)?)?;
-    begin(alloc, file, line, b)
-}
-
-fn step_text(
-    alloc: Global,
-    out: &mut Items<Token>,
-    file: FileOf,
-    line: u32,
-    mut text: Bytes,
-    b: u8,
-) -> Result<State, Refuse>
-    requires { line + 1 < 2 ^ 32 }
-    ensures read { Moves file (spec.step_at (mode.Text text) line b) out.old result out.new }
-    ensures line { IfOk result (λ s. s.line ≤ line + 1) }
-{
-    if b == b'"' {
-        out.push(Token {
-            kind: TokKind::Quoted,
-            text,
-            line,
-        })?;
-        Ok(at_line(line, Mode::Between))
-    } else if b == b'\n' {
-        Err(fault(alloc, file, OPEN_COMMENT_OR_TEXT, line))
-    } else if b == b'\\' {
-        Err(fault(alloc, file, STRAY_BYTE, line))
-    } else {
-        text.append(&[b])?;
-        Ok(at_line(line, Mode::Text(text)))
+    match opened {
+        Some(line) => Mode::Inside(line),
+        None => Mode::Fresh,
     }
 }
 
-fn step_mark(
-    alloc: Global,
-    out: &mut Items<Token>,
-    file: FileOf,
-    line: u32,
-    a: u8,
-    b: u8,
-) -> Result<State, Refuse>
-    requires { line + 1 < 2 ^ 32 }
-    ensures read { Moves file (spec.step_at (mode.Mark a) line b) out.old result out.new }
-    ensures line { IfOk result (λ s. s.line ≤ line + 1) }
+fn open_in(mode: Mode) -> Option<u32>
+    ensures { result ≡ spec.open_in mode }
 {
-    if a == b'/' && b == b'*' {
-        Ok(at_line(line, Mode::Comment(line)))
-    } else if is_double(a, b) {
-        out.push(sign(alloc, line, &[a, b])?)?;
-        Ok(at_line(line, Mode::Between))
-    } else {
-        out.push(sign(alloc, line, &[a])?)?;
-        begin(alloc, file, line, b)
-    }
-}
-
-/// The state after a byte that follows a carriage return.
-fn step_return(alloc: Global, file: FileOf, line: u32, b: u8) -> Result<State, Refuse>
-    requires { line + 1 < 2 ^ 32 }
-    ensures read { (out : List Token)
-        → Moves file (spec.step_at mode.Return line b) out result out }
-    ensures line { IfOk result (λ s. s.line ≤ line + 1) }
-{
-    if b == b'\n' {
-        Ok(at_line(line + 1, Mode::Fresh))
-    } else {
-        Err(fault(alloc, file, STRAY_BYTE, line))
-    }
-}
-
-/// The state after a byte of a comment that was opened on a line.
-fn in_comment(line: u32, opened: u32, b: u8) -> State
-    requires { line + 1 < 2 ^ 32 }
-    ensures state { result ≡ (spec.in_comment line opened b).state }
-    ensures line { result.line ≤ line + 1 }
-{
-    if b == b'*' {
-        at_line(line, Mode::Star(opened))
-    } else if b == b'\n' {
-        at_line(line + 1, Mode::Comment(opened))
-    } else {
-        at_line(line, Mode::Comment(opened))
-    }
-}
-
-/// Reads one byte: adds the tokens that are over, and gives the state after it.
-fn step(
-    alloc: Global,
-    out: &mut Items<Token>,
-    file: FileOf,
-    state: State,
-    b: u8,
-) -> Result<State, Refuse>
-    requires { state.line + 1 < 2 ^ 32 }
-    ensures read { Moves file (spec.step state b) out.old result out.new }
-    ensures line { IfOk result (λ s. s.line ≤ state.line + 1) }
-{
-    let State { mode, line } = state;
     match mode {
-        Mode::Fresh => step_fresh(alloc, file, line, b),
-        Mode::Directive(bytes) => step_directive(alloc, file, line, bytes, b),
-        Mode::Between => begin(alloc, file, line, b),
-        Mode::Word(word) => step_word(alloc, out, file, line, word, b),
-        Mode::Text(text) => step_text(alloc, out, file, line, text, b),
-        Mode::Mark(a) => step_mark(alloc, out, file, line, a, b),
-        Mode::Return => step_return(alloc, file, line, b),
-        Mode::Comment(opened) => Ok(in_comment(line, opened, b)),
-        Mode::Star(opened) => {
-            if b == b'/' {
-                Ok(at_line(line, Mode::Between))
-            } else {
-                Ok(in_comment(line, opened, b))
-            }
-        }
+        Mode::Inside(opened) => Some(opened),
+        Mode::Fresh | Mode::Between => None,
     }
 }
 
-/// Adds the token that is over at the end of the text.
-fn end(alloc: Global, out: &mut Items<Token>, file: FileOf, state: State) -> Result<(), Refuse>
-    ensures { Adds file (spec.last state) out.old result out.new }
+// Adds the tokens of a line, at whose begin a comment of that line is open or none. Gives the line
+// of the comment that is open at its end.
+fn cut_line(
+    alloc: Global,
+    out: &mut Items<Token>,
+    file: FileOf,
+    opened: Option<u32>,
+    line: &Line,
+) -> Result<Option<u32>, Refuse>
+    requires { length line.now.text < 2 ^ 32 - 1 }
+    ensures { Cuts out.old result out.new (spec.cut_of file opened line.now) }
 {
-    let State { mode, line } = state;
-    match mode {
-        Mode::Fresh | Mode::Between => Ok(()),
-        Mode::Directive(bytes) => end_directive(alloc, file, line, false, bytes.as_slice()),
-        Mode::Word(word) => {
-            out.push(word_token(alloc, file, line, word)?)?;
-            Ok(())
-        }
-        Mode::Text(_) => Err(fault(alloc, file, OPEN_COMMENT_OR_TEXT, line)),
-        Mode::Mark(a) => {
-            out.push(sign(alloc, line, &[a])?)?;
-            Ok(())
-        }
-        Mode::Return => Err(fault(alloc, file, STRAY_BYTE, line)),
-        Mode::Comment(opened) | Mode::Star(opened) => {
-            Err(fault(alloc, file, OPEN_COMMENT_OR_TEXT, opened))
-        }
+    let mut rest = line.text.as_slice();
+    let mut mode = begun(opened);
+    let mut col: u32 = 1;
+    while !rest.is_empty() {
+        let span = Span {
+            line: line.number,
+            col,
+        };
+        let Moved {
+            token,
+            mode: next,
+            len,
+        } = step(alloc, file, span, mode, rest)?;
+        push_some(out, token)?;
+        mode = next;
+        rest = rest.split_at(len).1;
+        col += len as u32;
     }
+    Ok(open_in(mode))
 }
 
-/// The tokens of a C text, or its first fault: 701 for a byte that may not stand where it does, 702
-/// for a text or comment that does not end, on the line where it begins, 703 for an integer of more
-/// than 64 bits, 706 for a `#define` that is not passed over.
-#[tactic(auto, unfolding(crate::specs::Tokens::tokens_of))]
-pub fn tokens(alloc: Global, src: &[u8], file: FileOf) -> Result<Items<Token>, Refuse>
-    requires { length src.now < 2 ^ 32 - 1 }
-    ensures { Gives result (tokens.tokens_of file src.now) }
+/// Whether columns can count the bytes of each line, which the lines of a text of fewer than
+/// 2^32 - 1 bytes allow.
+pub fn are_short(src: &[Line]) -> bool
+    ensures { result ≡ spec.are_short src.now }
+{
+    src.iter().all(|line| line.text.len() < u32::MAX as usize)
+}
+
+/// The tokens of the lines of a C text, or its first fault: 701 for a byte at which none begins,
+/// 702 for a text or comment that does not end, on the line where it begins, 703 for an integer of
+/// more than 64 bits, 706 for a `#define` that is not taken, 707 for a floating constant.
+#[tactic(auto, using(crate::proofs::ShortLines::line_is_short))]
+pub fn tokens(alloc: Global, src: &[Line], file: FileOf) -> Result<Items<Token>, Refuse>
+    requires { spec.are_short src.now ≡ true }
+    ensures { Gives result (spec.tokens_of file src.now) }
 {
     let mut out = Items::new(alloc);
-    let mut state = at_line(1, Mode::Fresh);
-    for b in src {
-        state = step(alloc, &mut out, file, state, *b)?;
+    let mut opened = None;
+    for line in src {
+        opened = cut_line(alloc, &mut out, file, opened, line)?;
     }
-    end(alloc, &mut out, file, state)?;
-    Ok(out)
+    match opened {
+        None => Ok(out),
+        Some(line) => Err(Refuse::Fault(Fault::bare(alloc, file, line, OPEN_COMMENT_OR_TEXT))),
+    }
 }

@@ -1,15 +1,17 @@
-//! The tokens of C text: what the glue's grammar, and all that is read by it, stands on.
+//! The tokens of C text: what the grammar of C, and all that is read by it, stands on.
 #![tactic(auto)]
 
 mod directives;
+mod front;
 mod laws;
 mod lexing;
-mod state;
+mod numerals;
+mod punctuators;
+mod quoted;
 mod token;
 mod words;
 
-pub use directives::is_passed_line;
-pub use laws::{comments_law, passed_law, pieces_law, words_law};
-pub use lexing::tokens;
-pub use token::{TokKind, Token};
-pub use words::{is_no_name, is_type_word};
+pub use laws::{codes_law, joined_law, placed_law, relined_law, spelled_law, suffix_law};
+pub use lexing::{are_short, tokens};
+pub use token::{Literal, TokKind, Token};
+pub use words::{is_dropped_statement, is_dropped_word, is_no_name, is_reserved, is_type_word};

@@ -1,127 +1,100 @@
-//! The kinds of the words of C text, and which of them are no names.
+//! The words of the grammar of C, and which words name nothing that a file declares.
 
 ghost use Rattle.std.specs.Prelude.{◌≡◌};
-ghost use Rattle.xs_base.specs.Names as names;
 ghost use Rattle.xs_ctok.specs.CWords as spec;
 
-use crate::token::TokKind;
-use xs_base::{ByteClass, cut_run, digits_value, is_among, is_ascii_digit, is_decimal};
+use xs_base::is_among;
+use xs_perlapi::is_interface_word;
 
-/// The words of types (C11 6.7.2, perlguts).
-pub const TYPE_WORDS: [&str; 3] = ["int", "IV", "SV"];
-
-/// Further words of C and of perl that name nothing: the words of glue functions and of tests, and
-/// those that no rule has, which are other types, other statements, storage classes (C11 6.4.1) and
-/// perl's declarations (perlguts).
-pub const NO_NAMES: [&str; 50] = [
-    "XS",
-    "if",
-    "char",
-    "signed",
-    "unsigned",
-    "short",
-    "long",
-    "I8",
-    "U8",
-    "I16",
-    "U16",
-    "I32",
-    "U32",
-    "SSize_t",
-    "ssize_t",
-    "SysRet",
-    "UV",
-    "STRLEN",
-    "size_t",
-    "bool",
-    "void",
-    "SVREF",
-    "AV",
-    "HV",
-    "typedef",
-    "struct",
-    "else",
-    "while",
-    "do",
-    "for",
-    "switch",
-    "break",
-    "continue",
-    "return",
-    "case",
-    "default",
-    "INT2PTR",
-    "const",
-    "static",
-    "STATIC",
-    "inline",
-    "STMT_START",
-    "STMT_END",
-    "pTHX",
-    "pTHX_",
-    "aTHX",
-    "aTHX_",
-    "dTHX",
-    "dVAR",
-    "dNOOP",
+/// The words of types (C11 6.7.2, perlguts, XSUB.h).
+pub const TYPE_WORDS: [&str; 25] = [
+    "AV", "HV", "I16", "I32", "I8", "IV", "SSize_t", "STRLEN", "SV", "SVREF", "SysRet", "U16",
+    "U32", "U8", "UV", "bool", "char", "int", "long", "short", "signed", "size_t", "ssize_t",
+    "unsigned", "void",
 ];
 
-/// Whether a word is one of those of types.
+/// Further words that are no names: those that begin or join statements (C11 6.8) and declarations
+/// (6.7), and two macros with a meaning of their own in the grammar (XSUB.h, perlapi).
+pub const GRAMMAR_WORDS: [&str; 15] = [
+    "INT2PTR", "XS", "break", "case", "continue", "default", "do", "else", "for", "if", "return",
+    "struct", "switch", "typedef", "while",
+];
+
+/// Words that are passed over: storage classes and qualifiers of C (C11 6.7.1, 6.7.3, 6.7.4), and
+/// words of perl.h that only a perl with threads has a use for.
+pub const DROPPED_WORDS: [&str; 10] = [
+    "STATIC",
+    "STMT_END",
+    "STMT_START",
+    "aTHX",
+    "aTHX_",
+    "const",
+    "inline",
+    "pTHX",
+    "pTHX_",
+    "static",
+];
+
+/// Words that are passed over with the `;` after them (perlguts).
+pub const DROPPED_STATEMENTS: [&str; 3] = ["dNOOP", "dTHX", "dVAR"];
+
+/// Further reserved words: flags, macros and constants of perl.h (perlapi, perlcall), and NULL.
+pub const OTHER_RESERVED: [&str; 13] = [
+    "GV_ADD",
+    "G_ARRAY",
+    "G_DISCARD",
+    "G_EVAL",
+    "G_LIST",
+    "G_SCALAR",
+    "NULL",
+    "PERL_UNUSED_VAR",
+    "SVt_PVAV",
+    "SVt_PVHV",
+    "XSANY",
+    "any_i32",
+    "gv_stashpv",
+];
+
+/// Whether a word names a type, whatever the file declares.
+#[tactic(auto, unfolding(crate::specs::CWords::is_type_word))]
 pub fn is_type_word(word: &[u8]) -> bool
-    ensures { result ≡ names.is_among spec.type_words word.now }
+    ensures { result ≡ spec.is_type_word word.now }
 {
     is_among(&TYPE_WORDS, word)
 }
 
-/// Whether a word is no name of a variable or a function, whatever stands around it.
+/// Whether a word is no name of anything.
+#[tactic(auto, unfolding(crate::specs::CWords::is_no_name))]
 pub fn is_no_name(word: &[u8]) -> bool
     ensures { result ≡ spec.is_no_name word.now }
 {
-    is_type_word(word) || is_among(&NO_NAMES, word)
+    is_among(&TYPE_WORDS, word) || is_among(&GRAMMAR_WORDS, word)
 }
 
-/// This kind, if 64 bits hold the value of the digits.
-fn fitting(kind: TokKind, digits: &[u8]) -> Option<TokKind>
-    ensures { result ≡ spec.fitting kind digits.now }
+/// Whether a word is passed over.
+#[tactic(auto, unfolding(crate::specs::CWords::is_dropped_word))]
+pub fn is_dropped_word(word: &[u8]) -> bool
+    ensures { result ≡ spec.is_dropped_word word.now }
 {
-    match digits_value(digits) {
-        Some(_) => Some(kind),
-        None => None,
-    }
+    is_among(&DROPPED_WORDS, word)
 }
 
-/// The kind of a decimal integer, if 64 bits hold it.
-fn decimal_kind(digits: &[u8]) -> Option<TokKind>
-    ensures { result ≡ spec.decimal_kind digits.now }
+/// Whether a word is passed over with the `;` after it.
+#[tactic(auto, unfolding(crate::specs::CWords::is_dropped_statement))]
+pub fn is_dropped_statement(word: &[u8]) -> bool
+    ensures { result ≡ spec.is_dropped_statement word.now }
 {
-    match digits_value(digits) {
-        Some(n) => Some(TokKind::Numeral(n)),
-        None => None,
-    }
+    is_among(&DROPPED_STATEMENTS, word)
 }
 
-/// The kind of a word that begins with a digit, and None where the longest decimal integer in front
-/// of it is one that 64 bits do not hold. An octal or hexadecimal integer, which begins with `0`
-/// (C11 6.4.4.1), has no value here.
-fn numeral_kind(word: &[u8]) -> Option<TokKind>
-    ensures { result ≡ spec.numeral_kind word.now }
+/// Whether a word is reserved: C, the XS interface or Perl's API has a meaning for it, so that no
+/// variable, function, type or `#define` of a file has its name.
+pub fn is_reserved(word: &[u8]) -> bool
+    ensures { result ≡ spec.is_reserved word.now }
 {
-    if is_decimal(word) {
-        return decimal_kind(word);
-    }
-    match word {
-        [b'0', ..] => Some(TokKind::OtherNumeral),
-        _ => fitting(TokKind::OtherNumeral, cut_run(ByteClass::Digit, word).0),
-    }
-}
-
-/// The kind of a word, and None where it begins with a decimal integer that 64 bits do not hold.
-#[tactic(auto, unfolding(crate::specs::CWords::word_kind))]
-pub fn word_kind(word: &[u8]) -> Option<TokKind>
-    ensures { result ≡ spec.word_kind word.now }
-{
-    match word {
-        [first, ..] if is_ascii_digit(*first) => numeral_kind(word),
-        _ => Some(TokKind::Word),
-    }
+    is_no_name(word)
+        || is_dropped_word(word)
+        || is_dropped_statement(word)
+        || is_interface_word(word)
+        || is_among(&OTHER_RESERVED, word)
 }

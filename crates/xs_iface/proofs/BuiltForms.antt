@@ -13,7 +13,7 @@ use Rattle.xs_base.specs.declared.source.Line.{Line}
 use Rattle.xs_base.specs.Lines.{lines_of}
 use Rattle.xs_base.specs.Names.{is_among}
 use Rattle.xs_base.specs.Reading.{◌>>=◌, collect, not_built_in, with_front}
-use Rattle.xs_ctok.specs.Lexemes.{is_passed_line}
+use Rattle.xs_iface.specs.PassedLines.{is_passed_line}
 use Rattle.xs_iface.specs.declared.drafts.Draft.{Draft}
 use Rattle.xs_iface.specs.declared.paragraph.Paragraph.{Paragraph}
 use Rattle.xs_iface.specs.declared.xsub.Module.{Module}

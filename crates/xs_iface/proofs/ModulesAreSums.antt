@@ -1,7 +1,6 @@
 -- What holds of the module of each XS file whose XSUBs are sums.
-use Rattle.std.proofs.Common.{◌≡◌, ℕ, ◌≤◌, ◌&&◌, ◌||◌, Bool, true, false, not, List, [], ◌∷◌, ◌++◌, codes, length, map, Option, None, Some, Result, Ok, Err, refl, sym, ap, ◌+◌, ◌∙◌, cond, subst, arith}
+use Rattle.std.proofs.Common.{◌≡◌, ℕ, ◌≤◌, ◌&&◌, ◌||◌, Bool, true, false, not, List, [], ◌∷◌, ◌++◌, codes, length, map, Option, None, Some, Result, Ok, Err, refl, sym, ap, ◌+◌, ◌∙◌, cond, subst}
 use Rattle.std.proofs.lemmas.Bool.{and_parts, leb-true}
-use Rattle.std.proofs.lemmas.Bool.Decides.{nat_tests}
 use Rattle.std.proofs.lemmas.List.{length-map}
 use Rattle.std.proofs.lemmas.Option.{cond_some, option_and_then_some}
 use Rattle.std.specs.List.{list_all, list_any, position, position_from}
@@ -32,7 +31,7 @@ use Rattle.xs_base.specs.Scanning.{strip_prefix, is_identifier, value_of_digits}
 use Rattle.xs_iface.specs.Scan.{Chain, chain_of, chain_within, linked}
 use Rattle.std.specs.List.{AllByRecursion as All}
 use Rattle.xs_iface.specs.SumForm.{Differ, IsSumModule, IsSumXsub, IsTermOf}
-use Rattle.xs_iface.specs.ReservedWords.{is_free, is_reserved}
+use Rattle.xs_iface.specs.ReservedWords.{is_free, is_no_xsub_name}
 use Rattle.xs_iface.proofs.Apart.{are_apart, few_params, names_apart, params_apart}
 use Rattle.xs_iface.proofs.NameBytes.{full_bytes, glue_is, glue_tail, package_bytes, perl_bytes, tail_bytes}
 use Rattle.xs_sections.specs.Cut.{names_of, split_of}
@@ -41,7 +40,7 @@ use Rattle.xs_sections.specs.declared.sections.PartBody.{PartBody}
 use Rattle.xs_sections.specs.declared.sections.PartBody.TheVariants.{Para, Map}
 use Rattle.xs_sections.specs.declared.sections.Sections.{Sections}
 use Rattle.xs_base.proofs.Unless.{faultless}
-use Rattle.xs_base.specs.Faults.{first_fault, unless_fault}
+use Rattle.xs_base.specs.Faults.{first_fault}
 use Rattle.xs_sections.proofs.FaultsNamed.{are_named, is_name_or_empty}
 
 -- ---- what a chain of steps came from
@@ -229,7 +228,7 @@ drafted s part q p i =
     let names = names_of s part in
     let name = perl_name names.prefix q.function in
     let package_is = package_bytes names.package p in
-    let free = and_parts (is_identifier q.function) (not (is_reserved q.function)) i.function in
+    let free = and_parts (is_identifier q.function) (not (is_no_xsub_name q.function)) i.function in
     let bytes = perl_bytes names.prefix q.function (identifier_bytes q.function free.0) in
     record {
       tail = glue_tail names.package name;

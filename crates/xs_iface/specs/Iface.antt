@@ -15,7 +15,7 @@ use Rattle.xs_iface.specs.declared.xsub.Xsub.{Xsub}
 use Rattle.xs_iface.specs.Paragraph.{paragraph_of, term_of}
 use Rattle.xs_base.specs.Names.{is_among}
 use Rattle.xs_base.specs.Scanning.{strip_prefix}
-use Rattle.xs_ctok.specs.Lexemes.{is_passed_line}
+use Rattle.xs_iface.specs.PassedLines.{is_passed_line}
 use Rattle.xs_sections.specs.Cut.{last_names, names_of}
 use Rattle.xs_sections.specs.SectionFaults.{fault_at}
 use Rattle.xs_sections.specs.declared.sections.Part.{Part}

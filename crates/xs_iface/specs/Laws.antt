@@ -1,9 +1,9 @@
 -- What holds of the forms that are built: a file has a module only where each of its forms is
 -- built, and the refusal of one that is not stands on a line of the file.
 use Rattle.std.specs.List.{AllByRecursion}
-use Rattle.std.specs.Prelude.{◌≡◌, ℕ, true, false, List, [], ◌∷◌, ◌++◌, ◌⊎◌}
+use Rattle.std.specs.Prelude.{◌≡◌, ℕ, true, false, List, ◌∷◌, ◌++◌, ◌⊎◌}
 use Rattle.xs_base.specs.declared.source.Line.{Line}
-use Rattle.xs_ctok.specs.Lexemes.{is_passed_line}
+use Rattle.xs_iface.specs.PassedLines.{is_passed_line}
 use Rattle.xs_iface.specs.Paragraph.{is_sum_paragraph}
 use Rattle.xs_sections.specs.Laws.{IsLineOf}
 use Rattle.xs_sections.specs.declared.sections.Part.{Part}

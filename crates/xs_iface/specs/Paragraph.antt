@@ -1,7 +1,7 @@
 -- The form of an XSUB that gives a sum: its six lines, and what they say.
 use Rattle.std.specs.List.{list_all, position}
 use Rattle.std.specs.Option.{option_map, unwrap_or}
-use Rattle.std.specs.Prelude.{ℕ, ◌==◌, ◌&&◌, ◌||◌, not, nat_le, Bool, false, List, [], ◌∷◌, length, codes, Option, None, Some, is_some, option_and_then, if◌then◌else◌}
+use Rattle.std.specs.Prelude.{ℕ, ◌&&◌, ◌||◌, nat_le, Bool, List, ◌∷◌, length, codes, Option, None, Some, is_some, option_and_then, if◌then◌else◌}
 use Rattle.std.specs.Str.{bytes_eq}
 use Rattle.xs_base.specs.declared.source.Line.{Line}
 use Rattle.xs_iface.specs.declared.paragraph.Interface.{Interface}

@@ -5,10 +5,10 @@ ghost use Rattle.xs_base.specs.Reading.{Gives, collect};
 ghost use Rattle.xs_iface.specs.Iface.{body_paragraph, c_part_fault, draft_from, draft_of, drafts_of};
 
 use crate::paragraph::{Paragraph, read_paragraph};
+use crate::passed_lines::is_passed_line;
 use crate::spelling::{full_name, glue_name, perl_name};
 use std::alloc::Global;
 use xs_base::{Bytes, Fault, FileOf, Items, Line, Memory, Refuse};
-use xs_ctok::is_passed_line;
 use xs_sections::{Part, PartBody, Sections};
 
 /// A paragraph of the form, and the names of its function.
@@ -79,15 +79,16 @@ fn read_parts(alloc: Global, s: &Sections, parts: &[Part]) -> Result<Items<Draft
 }
 
 // The fault of the first line of the C part that is of no form that is built.
-fn c_part_fault(alloc: Global, lines: &[Line]) -> Option<Fault>
-    ensures { result ≡ c_part_fault lines.now }
+fn c_part_fault(alloc: Global, lines: &[Line]) -> Result<Option<Fault>, Memory>
+    ensures { IfOk result (λ fault. fault ≡ c_part_fault lines.now) }
 {
     for line in lines {
-        if !is_passed_line(line.text.as_slice()) {
-            return Some(Fault::not_built(alloc, FileOf::Xs, line.number));
+        let is_passed = is_passed_line(alloc, line.text.as_slice())?;
+        if !is_passed {
+            return Ok(Some(Fault::not_built(alloc, FileOf::Xs, line.number)));
         }
     }
-    None
+    Ok(None)
 }
 
 /// All parts, or the fault of the first form that is not built: the C part stands before the parts.
@@ -95,7 +96,7 @@ fn c_part_fault(alloc: Global, lines: &[Line]) -> Option<Fault>
 pub fn read_drafts(alloc: Global, s: &Sections) -> Result<Items<Draft>, Refuse>
     ensures { Gives result (drafts_of s.now) }
 {
-    match c_part_fault(alloc, s.c_part.as_slice()) {
+    match c_part_fault(alloc, s.c_part.as_slice())? {
         Some(fault) => Err(Refuse::Fault(fault)),
         None => {
             let drafts = read_parts(alloc, s, s.parts.as_slice())?;

@@ -5,6 +5,7 @@ mod drafts;
 mod laws;
 mod module_reading;
 mod paragraph;
+mod passed_lines;
 mod repeats;
 mod reserved_words;
 mod resolving;

@@ -1,9 +1,13 @@
 pub mod Joining
-pub mod GluePieces
+pub mod WrittenLines
+pub mod LinePieces
 pub mod GlueWords
-pub mod PieceCuts
+pub mod GlueLines
+pub mod GlueTexts
+pub mod KeptTokens
+pub mod PassedPart
 pub mod Standing
-pub mod SumsStand
 pub mod StatementsStand
+pub mod SumsStand
 pub mod GlueFunctions
 pub mod ReadBack

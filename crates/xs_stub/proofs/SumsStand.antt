@@ -1,95 +1,59 @@
--- The sum of an XSUB: its text, cut into tokens, and the expression that stands there.
-use Rattle.std.proofs.Common.{◌≡◌, ℕ, ◌+◌, ◌≤◌, max, List, [], ◌∷◌, ◌++◌, codes, fold, length, refl, ap, ap₂, arith}
-use Rattle.std.specs.Prelude.{Ok}
-use Rattle.xs_base.specs.declared.source.FileOf.TheVariants as file
-use Rattle.xs_ctok.specs.declared.state.Mode.TheVariants as mode
+-- The author's line of an XSUB: the sum that stands there.
+use Rattle.std.proofs.Common.{◌≡◌, ℕ, ◌+◌, ◌≤◌, max, List, [], ◌∷◌, ◌++◌, codes, fold, length, true, append-nil, refl, sym, ap, ap₂, arith}
+use Rattle.std.specs.List.{AllByRecursion as All, list_all}
+use Rattle.std.specs.Prelude.{None}
+use Rattle.xs_base.specs.Scanning.{is_blank}
+use Rattle.xs_ctok.specs.LineSpelling.{span_at}
+use Rattle.xs_ctok.specs.Tokens.{token_at}
+use Rattle.xs_ctok.specs.declared.token.TokKind.TheVariants as kind
 use Rattle.xs_ctok.specs.declared.token.Token.{Token}
-use Rattle.xs_csyn.specs.declared.tree.BinaryOp.TheVariants as op
-use Rattle.xs_csyn.specs.GlueGrammar as g
-use Rattle.xs_csyn.specs.GlueGrammar.{Sum, Unary, line_of}
-use Rattle.xs_csyn.specs.Heights.{height}
-use Rattle.xs_ctok.specs.Lexemes.{Sign, Word, at_line, begin}
-use Rattle.xs_ctok.specs.declared.state.State.{State}
-use Rattle.xs_ctok.specs.Pieces.{Plain, Name, Blank, IsBlank, run_pieces}
-use Rattle.xs_ctok.specs.Tokens.{token, word_token}
-use Rattle.xs_csyn.specs.SyntaxTree.{ExprTree, StmtTree, Effect, Set, Two, VarPlace, unlined_expr}
-use Rattle.xs_ctok.specs.CWords.{word_kind}
+use Rattle.xs_csyn.specs.Grammar as g
+use Rattle.xs_csyn.specs.Grammar.{Binary, Unary, line_of}
+use Rattle.xs_cexpr.specs.ExpressionHeights.{height}
+use Rattle.xs_cinput.specs.Operators.{assignments, binary_ops}
+use Rattle.xs_cstmt.specs.PerlForms.{forms}
+use Rattle.xs_csyn.specs.StatementGrammar as s
+use Rattle.xs_cexpr.specs.ExpressionTree.{ExprTree, Set, Two, VarPlace, unlined_expr}
+use Rattle.xs_cstmt.specs.StatementTree.{Effect, StmtTree}
+use Rattle.xs_ctok.specs.CWords.{is_no_name, is_type_word}
+use Rattle.xs_cinput.specs.declared.tree.BinaryOp.TheVariants as binary
 use Rattle.xs_iface.specs.declared.xsub.Param.{Param}
 use Rattle.xs_iface.specs.declared.xsub.Term.{Term}
 use Rattle.xs_iface.specs.declared.xsub.Term.TheVariants.{Literal, Parameter}
-use Rattle.std.specs.List.{AllByRecursion as All, flat_map}
+use Rattle.xs_iface.specs.declared.xsub.Xsub.{Xsub}
+use Rattle.xs_stub.proofs.GlueLines.{more_terms, sum_line, sum_line-is, sum_lines}
+use Rattle.xs_stub.proofs.GlueWords.{IsSpelled, kind_of_term}
+use Rattle.xs_stub.proofs.LinePieces.{piece_tokens}
+use Rattle.xs_stub.proofs.Standing.{Body, Stand, regrouped, with_part}
+use Rattle.xs_stub.proofs.StatementsStand.{operand, variable_token}
 use Rattle.xs_stub.specs.Intended.{assign, sum_of, term_tree}
 use Rattle.xs_stub.specs.Stub.{term_text}
-use Rattle.xs_stub.proofs.PieceCuts.{Cut, fresh, joined, sign, word}
-use Rattle.xs_stub.proofs.GluePieces.{after_separator, sum_pieces}
-use Rattle.xs_stub.proofs.GlueWords.{IsSpelled, kind_of_term, spelled_word}
-use Rattle.xs_stub.proofs.Standing.{Body, Stand, StandAt, assigned, stated}
-
--- ---- tokens
-
-abbrev term_token : ℕ → List Param → Term → Token
-term_token n params t = token (kind_of_term t) n (term_text params t)
-
--- the tokens after a term
-abbrev more_tokens : ℕ → List Param → List Term → List Token
-more_tokens n params [] = sign n (codes ";") ∷ []
-more_tokens n params (t ∷ ts) = sign n (codes "+") ∷ term_token n params t ∷ more_tokens n params ts
-
--- a term, and a text after it that is cut into one mark
-term_cut : (n : ℕ) (params : List Param) (t : Term) (text mark : List ℕ) (after : State) → IsSpelled params t
-    → run_pieces (at_line n mode.Between) (Name (term_text params t) ∷ Plain text ∷ [])
-    ≡ record { state = after; lexemes = Word n (term_text params t) ∷ Sign n mark ∷ [] }
-    → Cut (Name (term_text params t) ∷ Plain text ∷ []) (at_line n mode.Between) after (term_token n params t ∷ sign n mark ∷ [])
-term_cut n params t text mark after w runs = record {
-  fine = ((spelled_word params t w).is_name, tt);
-  lexemes = Word n (term_text params t) ∷ Sign n mark ∷ [];
-  runs = runs;
-  tokens_are = ap (λ s. word_token file.Text n (term_text params t) s ∷ Ok (sign n mark) ∷ []) (spelled_word params t w).kind;
-}
-
-last_term_cut : (n : ℕ) (params : List Param) (t : Term) → IsSpelled params t
-    → Cut (Name (term_text params t) ∷ Plain (codes ";\n") ∷ []) (at_line n mode.Between) (fresh (n + 1)) (term_token n params t ∷ sign n (codes ";") ∷ [])
-unfolding begin
-last_term_cut n params t w = term_cut n params t (codes ";\n") (codes ";") (fresh (n + 1)) w refl
-
-inner_term_cut : (n : ℕ) (params : List Param) (t : Term) → IsSpelled params t
-    → Cut (Name (term_text params t) ∷ Plain (codes " + ") ∷ []) (at_line n mode.Between) (at_line n mode.Between)
-    (term_token n params t ∷ sign n (codes "+") ∷ [])
-unfolding begin
-inner_term_cut n params t w = term_cut n params t (codes " + ") (codes "+") (at_line n mode.Between) w refl
-
-terms_cut : (n : ℕ) (params : List Param) (t : Term) (ts : List Term) → IsSpelled params t → All (IsSpelled params) ts
-    → Cut (Name (term_text params t) ∷ (flat_map (after_separator (codes " + ") (term_text params)) ts ++ Plain (codes ";\n") ∷ [])) (at_line n mode.Between)
-    (fresh (n + 1)) (term_token n params t ∷ more_tokens n params ts)
-terms_cut n params t [] w ws = last_term_cut n params t w
-terms_cut n params t (u ∷ us) w ws = joined (inner_term_cut n params t w) (terms_cut n params u us ws.0 ws.1)
-
-line_cut : (n : ℕ) (indent : List ℕ) → IsBlank indent
-    → Cut (Blank indent ∷ Plain (codes "RETVAL = ") ∷ []) (fresh n) (at_line n mode.Between) (word n (codes "RETVAL") ∷ sign n (codes "=") ∷ [])
-unfolding begin word_kind
-line_cut n indent h = record {
-  fine = (h, tt);
-  lexemes = Word n (codes "RETVAL") ∷ Sign n (codes "=") ∷ [];
-  runs = refl;
-  tokens_are = refl;
-}
+use Rattle.xs_values.specs.declared.operator.Op.TheVariants as op
 
 -- ---- the expression
 
--- A sum stands there, which is this one but for lines, and is not taller than so many nodes.
+-- the token of a term
+abbrev term_token : ℕ → ℕ → List Param → Term → Token
+term_token n col params t = token_at (kind_of_term t) (span_at n col) (term_text params t)
+
+-- the tokens after a term, which ends before this column
+abbrev after_term : ℕ → ℕ → List Param → List Term → List Token → List Token
+after_term n col params ts rest = piece_tokens n col (more_terms params ts) ++ rest
+
+-- A sum stands there, whatever operator binds less around it. It is this one but for lines, and is not taller than so many nodes.
 record SumIs (e : ExprTree) (tall : ℕ) (ts us : List Token) : Type 0 where
   tree : ExprTree
-  stands : Sum tree ts us
+  stands : (k : ℕ) → k ≤ 9 → Binary [] k tree ts us
   same : unlined_expr tree ≡ unlined_expr e
   low : height tree ≤ tall
 
 raised : {e : ExprTree} {a b : ℕ} {ts us : List Token} → a ≤ b → SumIs e a ts us → SumIs e b ts us
-raised le s = record { tree = s.tree; stands = s.stands; same = s.same; low = omega (arith, le, s.low) }
+raised le x = record { tree = x.tree; stands = x.stands; same = x.same; low = omega (arith, le, x.low) }
 
-term_stands : (n : ℕ) (params : List Param) (t : Term) (ts : List Token) → IsSpelled params t
-    → Unary (term_tree params n t) (term_token n params t ∷ ts) ts
-term_stands n params (Parameter at) ts w = g.name w.named
-term_stands n params (Literal value) ts w = g.int refl
+term_stands : (n col : ℕ) (params : List Param) (t : Term) (ts : List Token) → IsSpelled params t
+    → Unary [] (term_tree params n t) (term_token n col params t ∷ ts) ts
+term_stands n col params (Parameter at) ts w = operand (g.name (variable_token n col _ w.named))
+term_stands n col params (Literal value) ts w = operand (g.int refl)
 
 term_same : (n m : ℕ) (params : List Param) (t : Term) → unlined_expr (term_tree params n t) ≡ unlined_expr (term_tree params m t)
 term_same n m params (Parameter at) = refl
@@ -102,55 +66,74 @@ term_height n params (Literal value) = refl
 taller : (a b h : ℕ) → a ≤ h → b ≡ 1 → 1 ≤ h → max a b + 1 ≤ h + 1
 taller a b h le is some = omega (arith, le, is, some)
 
+-- a sum and a term after it
+longer_sum : (n col m : ℕ) (params : List Param) (u : Term) (e : ExprTree) (tall : ℕ) (ts rest : List Token) → IsSpelled params u → 1 ≤ tall
+    → SumIs e tall ts (token_at kind.Punct (span_at n (col + 1)) (codes "+") ∷ term_token n (col + 1 + 1 + 1) params u ∷ rest)
+    → SumIs (Two m (binary.On op.Add) e (term_tree params m u)) (tall + 1) ts rest
+unfolding binary_ops
+longer_sum n col m params u e tall ts rest w some x = record {
+  tree = Two (line_of x.tree) (binary.On op.Add) x.tree (term_tree params n u);
+  stands = λ k le. g.two (x.stands 9 (omega arith)) refl le (g.is_unary (term_stands n (col + 1 + 1 + 1) params u rest w));
+  same = ap₂ (Two 0 (binary.On op.Add)) x.same (term_same n m params u);
+  low = taller (height x.tree) (height (term_tree params n u)) tall x.low (term_height n params u) some;
+}
+
+-- the sum of the terms so far and of those that follow
+abbrev longer : ℕ → List Param → ExprTree → List Term → ExprTree
+longer m params e us = fold (λ sum term. Two m (binary.On op.Add) sum (term_tree params m term)) e us
+
 -- what stands after a sum makes it longer
-grown : (n m : ℕ) (params : List Param) (us : List Term) (e : ExprTree) (tall : ℕ) (ts rest : List Token) → All (IsSpelled params) us → 1 ≤ tall
-    → SumIs e tall ts (more_tokens n params us ++ rest)
-    → SumIs (fold (λ sum term. Two m op.Add sum (term_tree params m term)) e us) (tall + length us) ts (sign n (codes ";") ∷ rest)
-grown n m params [] e tall ts rest spelled some s = raised (omega arith) s
-grown n m params (u ∷ us) e tall ts rest spelled some s =
-    raised (omega arith) (grown n m params us (Two m op.Add e (term_tree params m u)) (tall + 1) ts rest spelled.1 (omega arith) (record {
-      tree = Two (line_of s.tree) op.Add s.tree (term_tree params n u);
-      stands = g.add s.stands refl (term_stands n params u (more_tokens n params us ++ rest) spelled.0);
-      same = ap₂ (Two 0 op.Add) s.same (term_same n m params u);
-      low = taller (height s.tree) (height (term_tree params n u)) tall s.low (term_height n params u) some;
-    }))
+grown : (n col m : ℕ) (params : List Param) (us : List Term) (e : ExprTree) (tall : ℕ) (ts rest : List Token) → All (IsSpelled params) us → 1 ≤ tall
+    → SumIs e tall ts (after_term n col params us rest)
+    → (end : ℕ) × SumIs (longer m params e us) (tall + length us) ts (token_at kind.Punct (span_at n end) (codes ";") ∷ rest)
+grown n col m params [] e tall ts rest spelled some x = (col, raised (omega arith) x)
+grown n col m params (u ∷ us) e tall ts rest spelled some x =
+    let next : ℕ = col + 1 + 1 + 1 + length (term_text params u) in
+    let more = grown n next m params us (Two m (binary.On op.Add) e (term_tree params m u)) (tall + 1) ts rest spelled.1 (omega arith)
+    (longer_sum n col m params u e tall ts (after_term n next params us rest) spelled.0 some x) in
+    (more.0, raised (omega arith) more.1)
 
 -- ---- the statement
 
-first_sum : (n m : ℕ) (params : List Param) (t : Term) (ts : List Token) → IsSpelled params t → SumIs (term_tree params m t) 1 (term_token n params t ∷ ts) ts
-first_sum n m params t ts w = record {
+first_sum : (n col m : ℕ) (params : List Param) (t : Term) (ts : List Token) → IsSpelled params t
+    → SumIs (term_tree params m t) 1 (term_token n col params t ∷ ts) ts
+first_sum n col m params t ts w = record {
   tree = term_tree params n t;
-  stands = g.is_unary (term_stands n params t ts w);
+  stands = λ k le. g.is_unary (term_stands n col params t ts w);
   same = term_same n m params t;
   low = omega (arith, term_height n params t);
 }
 
-sum_at : (n m : ℕ) (params : List Param) (indent : List ℕ) (t : Term) (ts : List Term) → IsBlank indent → All (IsSpelled params) (t ∷ ts) → length (t ∷ ts) ≤ 32
-    → StandAt (Blank indent ∷ Plain (codes "RETVAL = ") ∷ (sum_pieces params (t ∷ ts) ++ Plain (codes ";\n") ∷ [])) (sum_of params m (t ∷ ts)) n
-sum_at n m params indent t ts blank spelled few = record {
-  to = n + 1;
-  tokens = word n (codes "RETVAL") ∷ sign n (codes "=") ∷ term_token n params t ∷ more_tokens n params ts;
-  cut = joined (line_cut n indent blank) (terms_cut n params t ts spelled.0 spelled.1);
-  onto = λ k rest vs h. onto k.0 rest vs k.1 (grown n m params ts (term_tree params m t) 1 (term_token n params t ∷ (more_tokens n params ts ++ vs)) vs
-      spelled.1 (omega arith) (first_sum n m params t (more_tokens n params ts ++ vs) spelled.0)) h;
+-- RETVAL gets a sum, in front of other statements
+sum_first : (n a b c d m deep : ℕ) (params : List Param) (t : Term) (ts : List Term) (rest : List StmtTree) (vs us : List Token) → IsSpelled params t
+    → All (IsSpelled params) ts → length (t ∷ ts) ≤ 32 → Body deep rest vs us
+    → Body deep (assign m (codes "RETVAL") (longer m params (term_tree params m t) ts) ∷ rest)
+    (token_at kind.Word (span_at n a) (codes "RETVAL") ∷ token_at kind.Punct (span_at n b) (codes "=") ∷ term_token n c params t
+    ∷ after_term n d params ts vs) us
+unfolding assignments forms is_type_word is_no_name
+sum_first n a b c d m deep params t ts rest vs us w ws few h =
+    let sum = grown n d m params ts (term_tree params m t) 1 (term_token n c params t ∷ after_term n d params ts vs) vs ws (omega arith)
+    (first_sum n c m params t (after_term n d params ts vs) w) in
+    let x = sum.1 in
+    with_part (Effect n (Set n (VarPlace n (codes "RETVAL")) None x.tree)) (assign m (codes "RETVAL") (longer m params (term_tree params m t) ts))
+    (s.stated (s.effect refl (g.set (g.is_named (g.variable refl)) refl (g.is_choice (g.is_binary (x.stands 1 (omega arith))))) refl))
+    (ap (λ e. Effect 0 (Set 0 (VarPlace 0 (codes "RETVAL")) None e)) x.same) (omega arith) (omega (arith, x.low, few)) h
+
+sum_line_stands : (m : ℕ) (params : List Param) (indent : List ℕ) (t : Term) (ts : List Term) → list_all is_blank indent ≡ true → IsSpelled params t
+    → All (IsSpelled params) ts → length (t ∷ ts) ≤ 32 → Stand (sum_line params indent (t ∷ ts) ∷ []) (sum_of params m (t ∷ ts))
+sum_line_stands m params indent t ts blanks w ws few = record {
+  fine = (sum_line-is params indent t ts blanks w ws, tt);
+  onto = λ n k rest vs h.
+      regrouped refl (ap (λ (l : List Token). l ++ vs) (sym (append-nil (piece_tokens n 1 (sum_line params indent (t ∷ ts))))))
+      (sum_first n _ _ _ _ m k.0 params t ts rest vs k.1 w ws few h);
 }
+
+-- The author's line is the sum.
+pub sum_stands : (m : ℕ) (x : Xsub) (t : Term) (ts : List Term) → x.sum ≡ t ∷ ts → list_all is_blank x.indent ≡ true
+    → All (IsSpelled x.params) x.sum → length x.sum ≤ 32 → Stand (sum_lines x) (sum_of x.params m x.sum)
+sum_stands m x t ts e blanks spelled few = by x.sum e spelled few
   where
-    sum_tree : ExprTree
-    sum_tree = fold (λ sum term. Two m op.Add sum (term_tree params m term)) (term_tree params m t) ts
-
-    onto : (deep : ℕ) (rest : List StmtTree) (vs us : List Token)
-        → SumIs sum_tree (1 + length ts) (term_token n params t ∷ (more_tokens n params ts ++ vs)) (sign n (codes ";") ∷ vs)
-        → Body deep rest vs us
-        → Body deep (assign m (codes "RETVAL") sum_tree ∷ rest) (word n (codes "RETVAL") ∷ sign n (codes "=") ∷ term_token n params t
-        ∷ (more_tokens n params ts ++ vs)) us
-    onto deep rest vs us s h =
-        stated (Effect n (Set n (VarPlace n (codes "RETVAL")) s.tree)) (assign m (codes "RETVAL") sum_tree)
-        (assigned n (word n (codes "RETVAL")) (g.set (g.variable refl) refl (g.is_comparison (g.is_sum s.stands))) refl)
-        (ap (λ e. Effect 0 (Set 0 (VarPlace 0 (codes "RETVAL")) e)) s.same) (omega arith) (omega (arith, s.low, few)) h
-
--- The line of the author's code.
-pub sum_stands : (m : ℕ) (params : List Param) (indent : List ℕ) (sum : List Term) (t : Term) (ts : List Term) → sum ≡ t ∷ ts → IsBlank indent
-    → All (IsSpelled params) sum → length sum ≤ 32
-    → Stand (Blank indent ∷ Plain (codes "RETVAL = ") ∷ (sum_pieces params sum ++ Plain (codes ";\n") ∷ [])) (sum_of params m sum)
-sum_stands m params indent [] t ts e blank spelled few = absurd cc
-sum_stands m params indent (u ∷ us) t ts e blank spelled few = record { at = λ n. sum_at n m params indent u us blank spelled few }
+    by : (sum : List Term) → sum ≡ t ∷ ts → All (IsSpelled x.params) sum → length sum ≤ 32
+        → Stand (sum_line x.params x.indent sum ∷ []) (sum_of x.params m sum)
+    by [] e spelled few = absurd cc
+    by (u ∷ us) e spelled few = sum_line_stands m x.params x.indent u us blanks spelled.0 spelled.1 few

@@ -1,7 +1,7 @@
 -- Laws of the glue text, for all modules.
 use Rattle.std.specs.List.{AllByRecursion}
 use Rattle.std.specs.Prelude.{◌≡◌, true}
-use Rattle.xs_ctok.specs.Lexemes.{is_passed_line}
+use Rattle.xs_iface.specs.PassedLines.{is_passed_line}
 use Rattle.xs_iface.specs.SumForm.{IsSumModule}
 use Rattle.xs_iface.specs.declared.xsub.Module.{Module}
 use Rattle.xs_stub.specs.Intended.{ReadsBack}

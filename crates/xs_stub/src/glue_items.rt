@@ -2,16 +2,16 @@
 
 ghost use Rattle.std.specs.Prelude.{◌≡◌, [], ◌∷◌, ◌++◌, IfOk, Ok, map};
 ghost use Rattle.xs_base.specs.Reading.{GivesBy};
-ghost use Rattle.xs_csyn.specs.SyntaxTree as t;
-ghost use Rattle.xs_csyn.specs.TreeViews.{file_tree, item_tree, item_trees, stmt_tree, stmt_trees};
-ghost use Rattle.xs_csyn.specs.declared.tree.PerlForm.TheVariants as form;
+ghost use Rattle.xs_cstmt.specs.StatementTree as t;
+ghost use Rattle.xs_cstmt.specs.StatementViews.{stmt_tree, stmt_trees};
+ghost use Rattle.xs_csyn.specs.FileViews.{file_tree, item_tree, item_trees};
 ghost use Rattle.xs_stub.specs.Intended as spec;
 ghost use Rattle.xs_stub.specs.Intended.{glue_tree};
 
-use crate::glue_stmts::{begun, word, xsub_body};
+use crate::glue_stmts::{begun, perl, xsub_body};
 use std::alloc::Global;
 use xs_base::{Bytes, Items, Memory, Refuse, with_more};
-use xs_csyn::{CFile, FileItem, PerlForm, Stmt, XsFun};
+use xs_csyn::{CFile, FileItem, PerlForm, PerlWord, Stmt, XsFun};
 use xs_iface::{Module, Xsub, underscored};
 use xs_values::DataModel;
 
@@ -51,7 +51,15 @@ fn registration(alloc: Global, line: u32, x: &Xsub) -> Result<Stmt, Memory>
 {
     let full = x.full.copy(alloc)?;
     let function = x.glue.copy(alloc)?;
-    Ok(word(line, PerlForm::NewXs { full, function }))
+    let keeps = false;
+    Ok(perl(
+        line,
+        PerlForm::NewXs {
+            keeps,
+            full,
+            function,
+        },
+    ))
 }
 
 #[tactic(auto, using(std::proofs::Common::append_assoc))]
@@ -74,11 +82,11 @@ fn with_registrations(
 // What stands in the boot function.
 fn boot_body(alloc: Global, line: u32, xsubs: &[Xsub]) -> Result<Vec<Stmt>, Memory>
     ensures { IfOk result (λ v. stmt_trees v
-        ≡ t.Perl line form.DxsArgs ∷ map (spec.registration line) xsubs.now
-        ++ t.Perl line form.XsReturnYes ∷ []) }
+        ≡ t.Perl line spec.dxsargs ∷ map (spec.registration line) xsubs.now
+        ++ t.Perl line spec.return_yes ∷ []) }
 {
     let all = with_registrations(alloc, begun(alloc, line)?, line, xsubs)?;
-    with_more(all, word(line, PerlForm::XsReturnYes))
+    with_more(all, perl(line, PerlForm::Word(PerlWord::XsReturnYes)))
 }
 
 // The boot function registers each glue function.
@@ -106,6 +114,7 @@ pub fn glue_tree(alloc: Global, m: &Module) -> Result<CFile, Refuse>
     let items = with_item(xsubs, boot_tree(alloc, m)?)?;
     Ok(CFile {
         model: DataModel::Lp64,
+        defines: Items::new(alloc),
         items,
     })
 }

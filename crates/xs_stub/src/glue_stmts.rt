@@ -1,9 +1,10 @@
 //! The statements of the intended tree. Where one is not made, memory runs out.
 
-ghost use Rattle.std.specs.Prelude.{◌≡◌, [], ◌∷◌, ◌++◌, IfOk, codes, map};
-ghost use Rattle.xs_csyn.specs.SyntaxTree as t;
-ghost use Rattle.xs_csyn.specs.TreeViews.{expr_tree, place_tree, stmt_tree, stmt_trees};
-ghost use Rattle.xs_csyn.specs.declared.tree.PerlForm.TheVariants as form;
+ghost use Rattle.std.specs.Prelude.{◌≡◌, [], ◌∷◌, ◌++◌, IfOk, None, codes, map};
+ghost use Rattle.xs_cexpr.specs.ExpressionTree as t_expr;
+ghost use Rattle.xs_cstmt.specs.StatementTree as t_stmt;
+ghost use Rattle.xs_cexpr.specs.ExpressionViews.{expr_tree, place_tree};
+ghost use Rattle.xs_cstmt.specs.StatementViews.{declarator_tree, stmt_tree, stmt_trees};
 ghost use Rattle.xs_stub.specs.Intended as spec;
 
 use crate::glue_exprs::{
@@ -11,54 +12,85 @@ use crate::glue_exprs::{
     variable,
 };
 use std::alloc::Global;
-use xs_base::{Bytes, Memory, with_more};
-use xs_csyn::{BinaryOp, CType, Expr, PerlForm, Place, Stmt, if_of};
+use xs_base::{Bytes, Items, Memory, with_more};
+use xs_csyn::{Declarator, Declared, Expr, PerlForm, PerlWord, Place, Stmt, if_of};
 use xs_iface::{Param, Term, Xsub};
+use xs_values::Op;
 
 // ---- single statements
 
-/// A statement that is a word of the XS interface.
-#[tactic(auto, using(xs_csyn::proofs::ViewsCompute::views))]
-pub fn word(line: u32, form: PerlForm) -> Stmt
-    ensures { stmt_tree result ≡ t.Perl line form }
+/// A statement of the XS interface.
+#[tactic(auto, using(xs_cstmt::proofs::ViewsCompute::views))]
+pub fn perl(line: u32, form: PerlForm) -> Stmt
+    ensures { stmt_tree result ≡ t_stmt.Perl line form }
 {
     Stmt::Perl(line, form)
 }
 
-#[tactic(auto, using(xs_csyn::proofs::ViewsCompute::views))]
-fn declared(alloc: Global, line: u32, of_type: CType, name: &[u8]) -> Result<Stmt, Memory>
-    ensures { IfOk result (λ s. stmt_tree s ≡ t.Declare line of_type name.now) }
+// A name that is declared, with so many `*` before it.
+fn declarator(alloc: Global, line: u32, stars: u32, name: &[u8]) -> Result<Declarator, Memory>
+    ensures { IfOk result (λ d. declarator_tree d ≡ spec.declarator line stars name.now) }
 {
     let name = Bytes::from_slice(alloc, name)?;
-    Ok(Stmt::Declare(line, of_type, name))
+    Ok(Declarator {
+        line,
+        stars,
+        name,
+        value: None,
+    })
 }
 
-#[tactic(auto, using(xs_csyn::proofs::ViewsCompute::views))]
+fn one_name(alloc: Global, one: Declarator) -> Result<Items<Declarator>, Memory>
+    ensures { IfOk result (λ all. map declarator_tree all ≡ declarator_tree one ∷ []) }
+{
+    let mut all = Items::new(alloc);
+    all.push(one)?;
+    Ok(all)
+}
+
+// A variable without a value.
+#[tactic(auto, using(xs_cstmt::proofs::ViewsCompute::views))]
+fn declared(
+    alloc: Global,
+    line: u32,
+    type_name: &[u8],
+    stars: u32,
+    name: &[u8],
+) -> Result<Stmt, Memory>
+    ensures { IfOk result (λ s. stmt_tree s
+        ≡ spec.declared line type_name.now stars name.now) }
+{
+    let base = Bytes::from_slice(alloc, type_name)?;
+    let names = one_name(alloc, declarator(alloc, line, stars, name)?)?;
+    Ok(Stmt::Declare(Declared { line, base, names }))
+}
+
+#[tactic(auto, using(xs_cstmt::proofs::ViewsCompute::views))]
 fn effect(line: u32, a: Expr) -> Stmt
-    ensures { stmt_tree result ≡ t.Effect line (expr_tree a) }
+    ensures { stmt_tree result ≡ t_stmt.Effect line (expr_tree a) }
 {
     Stmt::Effect(line, a)
 }
 
-#[tactic(auto, using(xs_csyn::proofs::ViewsCompute::views))]
+#[tactic(auto, using(xs_cstmt::proofs::ViewsCompute::views))]
 fn block(line: u32, body: Vec<Stmt>) -> Stmt
-    ensures { stmt_tree result ≡ t.Block line (t.stmts_of (stmt_trees body)) }
+    ensures { stmt_tree result ≡ t_stmt.Block line (t_stmt.stmts_of (stmt_trees body)) }
 {
     Stmt::Block(line, body)
 }
 
 // The place gets a value.
-#[tactic(auto, using(xs_csyn::proofs::ViewsCompute::views))]
+#[tactic(auto, using(xs_cstmt::proofs::ViewsCompute::views))]
 fn put(alloc: Global, line: u32, place: Place, value: Expr) -> Result<Stmt, Memory>
     ensures { IfOk result (λ s. stmt_tree s
-        ≡ t.Effect line (t.Set line (place_tree place) (expr_tree value))) }
+        ≡ t_stmt.Effect line (t_expr.Set line (place_tree place) None (expr_tree value))) }
 {
     let value = Box::new(alloc, value)?;
-    Ok(effect(line, Expr::Assign(line, place, value)))
+    Ok(effect(line, Expr::Assign(line, place, None, value)))
 }
 
 // The variable gets a value.
-#[tactic(auto, using(xs_csyn::proofs::ViewsCompute::views))]
+#[tactic(auto, using(xs_cstmt::proofs::ViewsCompute::views))]
 fn assign(alloc: Global, line: u32, name: &[u8], value: Expr) -> Result<Stmt, Memory>
     ensures { IfOk result (λ s. stmt_tree s ≡ spec.assign line name.now (expr_tree value)) }
 {
@@ -67,10 +99,9 @@ fn assign(alloc: Global, line: u32, name: &[u8], value: Expr) -> Result<Stmt, Me
 }
 
 // The first place of the argument list gets a value.
-#[tactic(auto, using(xs_csyn::proofs::ViewsCompute::views))]
+#[tactic(auto, using(xs_cstmt::proofs::ViewsCompute::views))]
 fn put_first(alloc: Global, line: u32, value: Expr) -> Result<Stmt, Memory>
-    ensures { IfOk result (λ s. stmt_tree s
-        ≡ t.Effect line (t.Set line (t.StPlace line (t.Num line 0)) (expr_tree value))) }
+    ensures { IfOk result (λ s. stmt_tree s ≡ spec.put_first line (expr_tree value)) }
 {
     let at = Box::new(alloc, number(line, 0))?;
     put(alloc, line, Place::St(line, at), value)
@@ -82,27 +113,21 @@ fn usage_test(alloc: Global, line: u32, params: &[Param]) -> Result<Stmt, Memory
 {
     let items = variable(alloc, line, b"items")?;
     let count = number(line, params.len() as u64);
-    let test = joined(alloc, line, BinaryOp::NotEqual, items, count)?;
+    let test = joined(alloc, line, Op::NotEqual, items, count)?;
     let croak = usage_croak(alloc, line, params)?;
     if_of(alloc, line, test, effect(line, croak))
 }
 
 // ---- statements after those that are there
 
-// Two statements more.
-#[tactic(auto, using(std::proofs::Common::append_assoc))]
-fn with_two(all: Vec<Stmt>, one: Stmt, other: Stmt) -> Result<Vec<Stmt>, Memory>
-    ensures { IfOk result (λ v. stmt_trees v
-        ≡ stmt_trees all ++ (stmt_tree one ∷ stmt_tree other ∷ [])) }
-{
-    with_more(with_more(all, one)?, other)
-}
-
 /// The first statement of an XS function.
 pub fn begun(alloc: Global, line: u32) -> Result<Vec<Stmt>, Memory>
-    ensures { IfOk result (λ v. stmt_trees v ≡ t.Perl line form.DxsArgs ∷ []) }
+    ensures { IfOk result (λ v. stmt_trees v ≡ t_stmt.Perl line spec.dxsargs ∷ []) }
 {
-    with_more(Vec::new(alloc), word(line, PerlForm::DxsArgs))
+    with_more(
+        Vec::new(alloc),
+        perl(line, PerlForm::Word(PerlWord::DXsArgs)),
+    )
 }
 
 // A variable for each parameter.
@@ -117,25 +142,35 @@ fn with_declarations(
         ≡ stmt_trees all ++ map (spec.declared_param line) params.now) }
 {
     for param in params {
-        let int_type = type_of(alloc, b"int", 0)?;
-        let one = declared(alloc, line, int_type, param.name.as_slice())?;
+        let one = declared(alloc, line, b"int", 0, param.name.as_slice())?;
         all = with_more(all, one)?;
     }
     Ok(all)
 }
 
+fn declared_value(alloc: Global, line: u32) -> Result<Stmt, Memory>
+    ensures { IfOk result (λ s. stmt_tree s ≡ spec.declared_int line (codes "RETVAL")) }
+{
+    declared(alloc, line, b"int", 0, b"RETVAL")
+}
+
+fn declared_scalar(alloc: Global, line: u32) -> Result<Stmt, Memory>
+    ensures { IfOk result (λ s. stmt_tree s
+        ≡ spec.declared line (codes "SV") 1 (codes "RETVALSV")) }
+{
+    declared(alloc, line, b"SV", 1, b"RETVALSV")
+}
+
 // The variables of the returned value.
+#[tactic(auto, using(std::proofs::Common::append_assoc))]
 fn with_result(alloc: Global, all: Vec<Stmt>, line: u32) -> Result<Vec<Stmt>, Memory>
     ensures { IfOk result (λ v. stmt_trees v
-        ≡ stmt_trees all
-        ++ (t.Declare line spec.int_type (codes "RETVAL") ∷ t.Declare line spec.sv_pointer
-        (codes "RETVALSV") ∷ [])) }
+        ≡ stmt_trees all ++ spec.declared_result line) }
 {
-    let int_type = type_of(alloc, b"int", 0)?;
-    let value = declared(alloc, line, int_type, b"RETVAL")?;
-    let sv_pointer = type_of(alloc, b"SV", 1)?;
-    let scalar = declared(alloc, line, sv_pointer, b"RETVALSV")?;
-    with_two(all, value, scalar)
+    let value = declared_value(alloc, line)?;
+    let all = with_more(all, value)?;
+    let scalar = declared_scalar(alloc, line)?;
+    with_more(all, scalar)
 }
 
 // Each parameter's variable gets its argument, in the order of the list.
@@ -184,29 +219,32 @@ fn new_mortal(alloc: Global, line: u32) -> Result<Stmt, Memory>
 // The mortal gets the value of RETVAL.
 fn set_value(alloc: Global, line: u32) -> Result<Stmt, Memory>
     ensures { IfOk result (λ s. stmt_tree s
-        ≡ t.Effect line
-        (spec.call_of line (codes "sv_setiv") (t.Var line (codes "RETVALSV")
-        ∷ t.Cast line spec.iv_type (t.Var line (codes "RETVAL")) ∷ []))) }
+        ≡ t_stmt.Effect line
+        (spec.call_of line (codes "sv_setiv") (t_expr.Var line (codes "RETVALSV")
+        ∷ t_expr.Cast line (spec.iv_type line) (t_expr.Var line (codes "RETVAL")) ∷ []))) }
 {
     let scalar = variable(alloc, line, b"RETVALSV")?;
-    let iv_type = type_of(alloc, b"IV", 0)?;
+    let iv_type = type_of(alloc, line, b"IV")?;
     let value = cast_to(alloc, line, iv_type, variable(alloc, line, b"RETVAL")?)?;
     let set = call_of(alloc, line, b"sv_setiv", two(alloc, scalar, value)?)?;
     Ok(effect(line, set))
 }
 
 // RETVAL becomes the value of a new mortal.
+#[tactic(auto, using(std::proofs::Common::append_assoc))]
 fn with_value(alloc: Global, all: Vec<Stmt>, line: u32) -> Result<Vec<Stmt>, Memory>
     ensures { IfOk result (λ v. stmt_trees v ≡ stmt_trees all ++ spec.returned_value line) }
 {
-    with_two(all, new_mortal(alloc, line)?, set_value(alloc, line)?)
+    let mortal = new_mortal(alloc, line)?;
+    let all = with_more(all, mortal)?;
+    let set = set_value(alloc, line)?;
+    with_more(all, set)
 }
 
 // The mortal is put first.
 fn put_mortal(alloc: Global, line: u32) -> Result<Stmt, Memory>
     ensures { IfOk result (λ s. stmt_tree s
-        ≡ t.Effect line
-        (t.Set line (t.StPlace line (t.Num line 0)) (t.Var line (codes "RETVALSV")))) }
+        ≡ spec.put_first line (t_expr.Var line (codes "RETVALSV"))) }
 {
     let mortal = variable(alloc, line, b"RETVALSV")?;
     put_first(alloc, line, mortal)
@@ -215,17 +253,21 @@ fn put_mortal(alloc: Global, line: u32) -> Result<Stmt, Memory>
 // The call is over, with one item.
 fn return_item(alloc: Global, line: u32) -> Result<Stmt, Memory>
     ensures { IfOk result (λ s. stmt_tree s
-        ≡ t.Effect line (spec.call_of line (codes "XSRETURN") (t.Num line 1 ∷ []))) }
+        ≡ t_stmt.Effect line (spec.call_of line (codes "XSRETURN") (spec.number line 1 ∷ []))) }
 {
     let over = call_of(alloc, line, b"XSRETURN", one(alloc, number(line, 1))?)?;
     Ok(effect(line, over))
 }
 
 // That mortal is the one item on the stack.
+#[tactic(auto, using(std::proofs::Common::append_assoc))]
 fn with_return(alloc: Global, all: Vec<Stmt>, line: u32) -> Result<Vec<Stmt>, Memory>
     ensures { IfOk result (λ v. stmt_trees v ≡ stmt_trees all ++ spec.return_one line) }
 {
-    with_two(all, put_mortal(alloc, line)?, return_item(alloc, line)?)
+    let put = put_mortal(alloc, line)?;
+    let all = with_more(all, put)?;
+    let over = return_item(alloc, line)?;
+    with_more(all, over)
 }
 
 // What an XSUB does once its arguments are as many as its parameters.
@@ -241,14 +283,23 @@ fn work_of(alloc: Global, x: &Xsub) -> Result<Vec<Stmt>, Memory>
     with_return(alloc, all, x.line)
 }
 
+// What stands in front of the block of a glue function.
+fn opened(alloc: Global, x: &Xsub) -> Result<Vec<Stmt>, Memory>
+    ensures { IfOk result (λ v. stmt_trees v
+        ≡ t_stmt.Perl x.now.line spec.dxsargs ∷ spec.usage_test x.now.line x.now.params ∷ []) }
+{
+    let all = begun(alloc, x.line)?;
+    let test = usage_test(alloc, x.line, x.params.as_slice())?;
+    with_more(all, test)
+}
+
 /// What stands in the glue function of an XSUB.
 pub fn xsub_body(alloc: Global, x: &Xsub) -> Result<Vec<Stmt>, Memory>
     ensures { IfOk result (λ v. stmt_trees v
-        ≡ t.Perl x.now.line form.DxsArgs ∷ spec.usage_test x.now.line x.now.params
-        ∷ t.Block x.now.line (t.stmts_of (spec.work_of x.now)) ∷ []) }
+        ≡ t_stmt.Perl x.now.line spec.dxsargs ∷ spec.usage_test x.now.line x.now.params
+        ∷ t_stmt.Block x.now.line (t_stmt.stmts_of (spec.work_of x.now)) ∷ []) }
 {
-    let test = usage_test(alloc, x.line, x.params.as_slice())?;
+    let all = opened(alloc, x)?;
     let work = work_of(alloc, x)?;
-    let all = with_more(begun(alloc, x.line)?, test)?;
     with_more(all, block(x.line, work))
 }

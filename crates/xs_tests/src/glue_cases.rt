@@ -45,7 +45,9 @@ fn functions(alloc: Global, m: &Module) -> Result<Bytes, Refuse> {
     let mut out = Bytes::new(alloc);
     let tree = glue_tree(alloc, m)?;
     for item in tree.items.as_slice() {
-        let FileItem::XsFun(function) = item;
+        let FileItem::XsFun(function) = item else {
+            continue;
+        };
         let head = format!(in alloc; "{} {} ", function.line, function.body.len())?;
         out.append(head.as_bytes())?;
         out.append(function.name.as_slice())?;

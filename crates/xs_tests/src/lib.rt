@@ -7,15 +7,21 @@ mod glue_cases;
 #[cfg(test)]
 mod module_cases;
 #[cfg(test)]
+mod nesting_tables;
+#[cfg(test)]
 mod script_cases;
 #[cfg(test)]
 mod section_cases;
 #[cfg(test)]
 mod syntax_cases;
 #[cfg(test)]
+mod syntax_tables;
+#[cfg(test)]
 mod table_rows;
 #[cfg(test)]
 mod token_cases;
+#[cfg(test)]
+mod token_tables;
 #[cfg(test)]
 mod value_cases;
 #[cfg(test)]

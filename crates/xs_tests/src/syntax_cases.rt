@@ -1,119 +1,166 @@
 //! Texts and their faults.
+ghost use Rattle.std.specs.Prelude.{◌<◌, ◌-◌, ◌^◌, IfOk, length};
 
+use crate::nesting_tables::{DEEP_EXPRESSIONS, DEEP_STATEMENTS};
+use crate::syntax_tables::{
+    ARGUMENTS, BLOCKS, EFFECTS, EXPRESSIONS, FILES, Piece, Row, STATEMENTS, XS_STATEMENTS,
+};
 use std::alloc::Global;
 use std::process::Abort;
 use std::test::Fail;
-use xs_base::{Bytes, FileOf, Memory, Refuse};
-use xs_csyn::read_file;
+use xs_base::{Bytes, FileOf, Items, Line, Memory, Refuse, early_end, lines};
+use xs_csyn::{TypeNames, read_args, read_block, read_expr, read_file, type_names};
+use xs_ctok::{Token, are_short, tokens};
 
-/// What the writer of glue gives for a function of two parameters.
-const GLUE: &str =
-    "/* xsubpp glue, data model LP64 */\n\nXS(XS_M_add)\n{\n    dXSARGS;\n    if (items != 2)\n        croak_xs_usage(cv, \"a, b\");\n    {\n        int a;\n        int b;\n        int RETVAL;\n        SV *RETVALSV;\n        a = (int)SvIV(ST(0));\n        b = (int)SvIV(ST(1));\n    RETVAL = a + b;\n        RETVALSV = sv_newmortal();\n        sv_setiv(RETVALSV, (IV)RETVAL);\n        ST(0) = RETVALSV;\n        XSRETURN(1);\n    }\n}\n\nXS(boot_M)\n{\n    dXSARGS;\n    newXS_deffile(\"M::add\", XS_M_add);\n    XSRETURN_YES;\n}\n";
+/// The tokens of lines.
+fn tokens_in(rt: &impl Abort, alloc: Global, src: &[Line]) -> Result<Items<Token>, Refuse>
+    ensures { IfOk result (λ all. length all < 2 ^ 32 - 1) }
+{
+    assert!(rt; are_short(src));
+    let all = tokens(alloc, src, FileOf::Text)?;
+    assert!(rt; all.len() < 100000);
+    Ok(all)
+}
 
-/// The code and the line of the fault of a text, or 0 and 0 where it is read.
-fn fault_of(rt: &impl Abort, alloc: Global, src: &Bytes) -> (u16, u32) {
-    assert!(rt; src.len() < 10000);
-    match read_file(alloc, src, FileOf::Text) {
-        Ok(_) => (0, 0),
-        Err(Refuse::Fault(fault)) => (fault.code, fault.line),
-        Err(Refuse::Memory) => (1, 0),
+/// The tokens of a text, and its last line that is not empty.
+fn tokens_of(rt: &impl Abort, alloc: Global, src: &Bytes) -> Result<(Items<Token>, u32), Refuse>
+    ensures { IfOk result (λ read. length read.0 < 2 ^ 32 - 1) }
+{
+    assert!(rt; src.len() < 100000);
+    let all = lines(alloc, src)?;
+    let last = early_end(alloc, src)?;
+    Ok((tokens_in(rt, alloc, all.as_slice())?, last))
+}
+
+/// The code and the line of a fault, or 0 and 0 where there is none.
+fn shown(read: Result<(), Refuse>) -> Result<(u16, u32), Memory> {
+    match read {
+        Ok(()) => Ok((0, 0)),
+        Err(Refuse::Fault(fault)) => Ok((fault.code, fault.line)),
+        Err(Refuse::Memory) => Err(Memory),
     }
 }
 
-/// Adds a text this often.
-fn add(src: &mut Bytes, text: &str, times: u8) -> Result<(), Memory> {
+fn read_text(rt: &impl Abort, alloc: Global, src: &Bytes) -> Result<(), Refuse> {
+    let (list, last) = tokens_of(rt, alloc, src)?;
+    read_file(alloc, list.as_slice(), FileOf::Text, last)?;
+    Ok(())
+}
+
+/// The types of a file that declares `foo`.
+fn types(rt: &impl Abort, alloc: Global) -> Result<TypeNames, Refuse> {
+    let src = Bytes::from_slice(alloc, b"typedef int foo; int f(foo a);")?;
+    let (list, last) = tokens_of(rt, alloc, &src)?;
+    let file = read_file(alloc, list.as_slice(), FileOf::Text, last)?;
+    Ok(type_names(alloc, &file)?)
+}
+
+/// What a piece is read as.
+#[derive(Clone, Copy)]
+enum As {
+    Block,
+    Expression,
+    Arguments,
+}
+
+fn read_piece(
+    rt: &impl Abort,
+    alloc: Global,
+    text: &str,
+    around: u32,
+    what: As,
+) -> Result<(), Refuse> {
+    let src = Bytes::from_slice(alloc, text.as_bytes())?;
+    let (list, last) = tokens_of(rt, alloc, &src)?;
+    let known = types(rt, alloc)?;
+    match what {
+        As::Block => {
+            read_block(alloc, list.as_slice(), FileOf::Text, last, &known, around)?;
+        }
+        As::Expression => {
+            read_expr(alloc, list.as_slice(), FileOf::Text, last, &known, around)?;
+        }
+        As::Arguments => {
+            read_args(alloc, list.as_slice(), FileOf::Text, last, &known, around)?;
+        }
+    }
+    Ok(())
+}
+
+/// A text, with a part of it repeated so often.
+fn text_of(alloc: Global, front: &str, part: &str, times: u8, back: &str) -> Result<Bytes, Memory> {
+    let mut src = Bytes::from_slice(alloc, front.as_bytes())?;
     for _ in 0..times {
-        src.append(text.as_bytes())?;
+        src.append(part.as_bytes())?;
+    }
+    src.append(back.as_bytes())?;
+    Ok(src)
+}
+
+fn hold_row(rt: &impl Abort, alloc: Global, row: &Row) -> Result<(), Fail> {
+    let (front, part, times, back, code, line) = *row;
+    let src = text_of(alloc, front, part, times, back)?;
+    let read = read_text(rt, alloc, &src);
+    assert_eq!(rt; shown(read)?, (code, line), "{front}{part}{times}{back}");
+    Ok(())
+}
+
+fn hold_rows(rt: &impl Abort, alloc: Global, rows: &[Row]) -> Result<(), Fail> {
+    for row in rows {
+        hold_row(rt, alloc, row)?;
     }
     Ok(())
 }
 
 #[test]
-fn texts(rt: HostRuntime) -> Result<(), Fail> {
-    let rows: [(&str, u16, u32); 12] = [
-        (GLUE, 0, 0),
-        ("", 0, 0),
-        ("\n\n", 0, 0),
-        ("XS(XS_x)\n{\n\n", 704, 2),
-        ("XS(XS_x)\n{\n \t\n", 704, 2),
-        ("XS(XS_x)\n{\n int a; dXSARGS; }", 704, 3),
-        ("XS(int)\n{ dXSARGS; }", 704, 1),
-        (
-            "XS(XS_x)\n{\n#include <x>\ndXSARGS;\n #include <y>\n}\n",
-            0,
-            0,
-        ),
-        ("XS(XS_x)\n#define N 1\n", 706, 2),
-        ("XS(XS_x) {\ndXSARGS\n+1;\n}", 704, 3),
-        ("XS(XS_x) {\ndXSARGS\n", 704, 2),
-        (
-            "#define PERL_NO_GET_CONTEXT /* a */ // b\nXS(XS_x) { dXSARGS; }",
-            0,
-            0,
-        ),
-    ];
-    for (text, code, line) in rows {
-        let src = Bytes::from_slice(rt.alloc(), text.as_bytes())?;
-        assert_eq!(rt; fault_of(&rt, rt.alloc(), &src), (code, line), "{text}");
+fn files(rt: HostRuntime) -> Result<(), Fail> {
+    hold_rows(&rt, rt.alloc(), &FILES)
+}
+
+#[test]
+fn statements(rt: HostRuntime) -> Result<(), Fail> {
+    hold_rows(&rt, rt.alloc(), &STATEMENTS)
+}
+
+#[test]
+fn xs_statements(rt: HostRuntime) -> Result<(), Fail> {
+    hold_rows(&rt, rt.alloc(), &XS_STATEMENTS)
+}
+
+#[test]
+fn effects(rt: HostRuntime) -> Result<(), Fail> {
+    hold_rows(&rt, rt.alloc(), &EFFECTS)
+}
+
+#[test]
+fn deep_expressions(rt: HostRuntime) -> Result<(), Fail> {
+    hold_rows(&rt, rt.alloc(), &DEEP_EXPRESSIONS)
+}
+
+#[test]
+fn deep_statements(rt: HostRuntime) -> Result<(), Fail> {
+    hold_rows(&rt, rt.alloc(), &DEEP_STATEMENTS)
+}
+
+fn hold(rt: &impl Abort, alloc: Global, rows: &[Piece], what: As) -> Result<(), Fail> {
+    for (text, around, code, line) in rows {
+        let read = read_piece(rt, alloc, text, *around, what);
+        assert_eq!(rt; shown(read)?, (*code, *line), "{text} {around}");
     }
     Ok(())
 }
 
-/// Bodies of functions: a text, one that is repeated, and another.
 #[test]
-fn bodies(rt: HostRuntime) -> Result<(), Fail> {
-    let rows: [(&str, &str, u8, &str, u16, u32); 33] = [
-        ("", "", 0, "}\r\n", 0, 0),
-        ("", "", 0, "\r}", 701, 4),
-        ("", "", 0, "a = 1;\n@ }", 701, 5),
-        ("", "", 0, "a b;\n\"x\n}", 702, 5),
-        ("", "", 0, "/* a\n b }", 702, 4),
-        ("", "", 0, "a = 18446744073709551615; }", 0, 0),
-        ("", "", 0, "a = 18446744073709551616; }", 703, 4),
-        ("", "", 0, "a = 09; }", 704, 4),
-        ("", "", 0, "a =\nint; }", 704, 5),
-        ("", "", 0, "int if; }", 704, 4),
-        ("", "", 0, "int RETVAL; SV **p; }", 0, 0),
-        ("", "", 0, "if (a)\nint b; }", 704, 5),
-        ("", "", 0, "if (a != 1 + 2) { b = c = 3; } }", 0, 0),
-        ("", "", 0, "if (a = != 1) b; }", 704, 4),
-        ("", "", 0, "a + b\n= c; }", 704, 5),
-        ("", "", 0, "ST(0, 1) = c; }", 704, 4),
-        ("", "", 0, "ST(a + 1) = c; ST(0, 1); }", 0, 0),
-        ("", "", 0, "a ! = b; }", 704, 4),
-        (
-            "",
-            "",
-            0,
-            "dXSARGS + 1; newXS_deffile(\"a\", b + c); }",
-            0,
-            0,
-        ),
-        ("", "", 0, "}\nint a;", 704, 5),
-        ("", "{", 63, "\n;", 704, 5),
-        ("", "{", 63, "\n{ a;", 705, 5),
-        ("if (a) ", "{", 62, "\nif (b) c;", 705, 5),
-        ("a", " + a", 63, "; }", 0, 0),
-        ("a", " + a", 63, "\n+ a; }", 705, 5),
-        ("", "f(", 64, "\na", 705, 5),
-        ("", "f(", 64, "", 705, 4),
-        ("", "f(", 63, "", 704, 4),
-        ("", "{", 63, "", 704, 4),
-        ("", "", 0, "a = 18446744073709551616x; }", 703, 4),
-        ("", "(int)", 63, "a; }", 0, 0),
-        ("", "a = ", 63, "b; }", 0, 0),
-        ("", "a = ", 63, "\na = b; }", 705, 5),
-    ];
-    for (front, part, times, back, code, line) in rows {
-        let mut src = Bytes::from_slice(rt.alloc(), b"XS(XS_x)\n{\ndXSARGS;\n")?;
-        add(&mut src, front, 1)?;
-        add(&mut src, part, times)?;
-        add(&mut src, back, 1)?;
-        assert_eq!(rt;
-            fault_of(&rt, rt.alloc(), &src),
-            (code, line),
-            "{front}{part}{back}"
-        );
-    }
-    Ok(())
+fn blocks(rt: HostRuntime) -> Result<(), Fail> {
+    hold(&rt, rt.alloc(), &BLOCKS, As::Block)
+}
+
+#[test]
+fn expressions(rt: HostRuntime) -> Result<(), Fail> {
+    hold(&rt, rt.alloc(), &EXPRESSIONS, As::Expression)
+}
+
+#[test]
+fn arguments(rt: HostRuntime) -> Result<(), Fail> {
+    hold(&rt, rt.alloc(), &ARGUMENTS, As::Arguments)
 }

@@ -1,5 +1,5 @@
 use Rattle.std.proofs.Common.{◌≡◌, [], map, drop}
-use Rattle.xs_csyn.specs.TreeViews.{item_tree}
+use Rattle.xs_csyn.specs.FileViews.{item_tree}
 use Rattle.xs_ccheck.specs.Growth.{functions_in}
 use Rattle.xs_ccheck.specs.ResolvingStmts.{names_in}
 use Rattle.xs_ccheck.specs.Typing as spec

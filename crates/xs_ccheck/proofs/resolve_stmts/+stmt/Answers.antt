@@ -1,9 +1,10 @@
 use Rattle.std.proofs.Common.{◌≡◌, ◌∙◌, ap, sym, subst, true, ◌∷◌, map, length, rules, arith, Ok}
 use Rattle.std.proofs.lemmas.Grind.{common_steps}
-use Rattle.xs_csyn.specs.SyntaxTree as syntax
-use Rattle.xs_csyn.specs.SyntaxTree.{stmts_of}
-use Rattle.xs_csyn.specs.TreeViews.{expr_tree, stmt_tree}
-use Rattle.xs_csyn.proofs.ViewsCompute.{stmt_tree-Block, stmt_tree-Effect, stmt_tree-If}
+use Rattle.xs_cstmt.specs.StatementTree as syntax
+use Rattle.xs_cstmt.specs.StatementTree.{stmts_of}
+use Rattle.xs_cexpr.specs.ExpressionViews.{expr_tree}
+use Rattle.xs_cstmt.specs.StatementViews.{stmt_tree}
+use Rattle.xs_cstmt.proofs.ViewsCompute.{stmt_tree-Block, stmt_tree-Effect, stmt_tree-If}
 use Rattle.xs_ccheck.specs.Growth.{HasNode, tree_in, trees_in}
 use Rattle.xs_ccheck.specs.ResolvingStmts.{done_in, GivesStmt, GivesStmts, names_in}
 use Rattle.xs_ccheck.specs.TypedTree.{Block, If, Forget, NoTrees, MoreTrees}

@@ -1,6 +1,6 @@
 use Rattle.std.proofs.Common.{map}
-use Rattle.xs_csyn.specs.SyntaxTree.{stmts_of}
-use Rattle.xs_csyn.specs.TreeViews.{stmt_tree}
+use Rattle.xs_cstmt.specs.StatementTree.{stmts_of}
+use Rattle.xs_cstmt.specs.StatementViews.{stmt_tree}
 use Rattle.xs_ccheck.proofs.StmtSizes.{stmt_size, stmts_size}
 use Rattle.xs_ccheck.proofs.resolve_stmts.+stmt.Given as goal
 

@@ -1,5 +1,5 @@
 use Rattle.std.proofs.Common.{◌≡◌, ◌++◌, drop, map}
-use Rattle.xs_csyn.specs.TreeViews.{stmt_trees}
+use Rattle.xs_cstmt.specs.StatementViews.{stmt_trees}
 use Rattle.xs_stub.specs.Intended.{registration}
 use Rattle.xs_stub.proofs.glue_items.with_registrations.Given as goal
 

@@ -1,5 +1,5 @@
 use Rattle.std.proofs.Common.{◌≡◌, ◌++◌, drop, map}
-use Rattle.xs_csyn.specs.TreeViews.{item_trees}
+use Rattle.xs_csyn.specs.FileViews.{item_trees}
 use Rattle.xs_stub.specs.Intended.{xsub_tree}
 use Rattle.xs_stub.proofs.glue_items.xsub_trees.Given as goal
 

@@ -1,5 +1,5 @@
 use Rattle.std.proofs.Common.{◌≡◌, ◌++◌, drop}
-use Rattle.xs_csyn.specs.TreeViews.{stmt_trees}
+use Rattle.xs_cstmt.specs.StatementViews.{stmt_trees}
 use Rattle.xs_stub.specs.Intended.{inputs_from}
 use Rattle.xs_stub.proofs.glue_stmts.with_inputs.Given as goal
 

@@ -1,0 +1,4 @@
+pub mod ViewsCompute
+pub mod PlaceViews
+pub mod BindingLevels
+pub mod ExpressionTurns

@@ -1,0 +1,4 @@
+pub mod ExpressionTree
+pub mod ExpressionReader
+pub mod ExpressionViews
+pub mod ExpressionHeights

@@ -1,0 +1,5 @@
+pub mod KeptTokens
+pub mod NamesHeld
+pub mod FirstTokens
+pub mod StarSteps
+pub mod Tables

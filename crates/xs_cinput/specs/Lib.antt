@@ -1,0 +1,3 @@
+pub mod TokenInput
+pub mod Operators
+pub mod TypeReader

@@ -1,0 +1,5 @@
+pub mod StatementTree
+pub mod PerlForms
+pub mod StatementReader
+pub mod StatementViews
+pub mod StatementHeights

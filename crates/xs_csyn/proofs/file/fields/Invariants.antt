@@ -1,0 +1,6 @@
+use Rattle.std.proofs.Common.{◌≡◌, ◌-◌}
+use Rattle.xs_csyn.specs.FileReader as spec
+use Rattle.xs_csyn.proofs.file.fields.Given as goal
+
+abbrev pub invariant-loop-turn : goal.invariant-loop-turn
+invariant-loop-turn l = spec.fields l.fn.cursor ≡ spec.fields_from (l._turn-end - l._turn) l.all l.cursor
