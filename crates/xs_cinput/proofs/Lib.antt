@@ -3,3 +3,4 @@ pub mod NamesHeld
 pub mod FirstTokens
 pub mod StarSteps
 pub mod Tables
+pub mod LevelsOfTheTable

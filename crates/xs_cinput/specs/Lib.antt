@@ -1,3 +1,4 @@
 pub mod TokenInput
 pub mod Operators
 pub mod TypeReader
+pub mod OperatorLevels

@@ -3,6 +3,7 @@
 
 mod cursor;
 mod kept;
+mod laws;
 mod lookahead;
 mod operators;
 mod token_tests;
@@ -12,6 +13,7 @@ mod types;
 
 pub use cursor::Cursor;
 pub use kept::Kept;
+pub use laws::operators_have_their_levels;
 pub use lookahead::{a_step, assignment, operator, prefix_op};
 pub use operators::listed;
 pub use token_tests::{is_name, is_punct_kind, is_sign, is_type, is_variable, is_word_kind};
