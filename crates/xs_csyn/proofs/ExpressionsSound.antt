@@ -212,7 +212,7 @@ place_in_primary a p ts us e (g.arrow {t = n} {v = f} v o m) = let same : tree.F
 place_in_primary a p ts us e (g.paren o x c) = absurd cc
 place_in_primary a p ts us e (g.int2ptr w o ty m x c) = absurd cc
 
-place_in_operand : {types : List (List ℕ)} (a : ExprTree) (p : PlaceTree) (ts us : List Token) → place_tree_of a ≡ Some p → Operand types a ts us
+pub place_in_operand : {types : List (List ℕ)} (a : ExprTree) (p : PlaceTree) (ts us : List Token) → place_tree_of a ≡ Some p → Operand types a ts us
     → NamedPlace types p ts us
 place_in_operand a p ts us e (g.index x o y c) = absurd cc
 place_in_operand a p ts us e (g.after q s) = absurd cc
@@ -249,7 +249,7 @@ place_in_unary a p ts us e (g.address o v) = absurd cc
 place_in_unary a p ts us e (g.before o q) = absurd cc
 place_in_unary a p ts us e (g.is_operand x) = g.is_named (place_in_operand a p ts us e x)
 
-place_in_choice : {types : List (List ℕ)} (a : ExprTree) (p : PlaceTree) (ts us : List Token) → place_tree_of a ≡ Some p → Choice types a ts us
+pub place_in_choice : {types : List (List ℕ)} (a : ExprTree) (p : PlaceTree) (ts us : List Token) → place_tree_of a ≡ Some p → Choice types a ts us
     → Place types p ts us
 place_in_choice a p ts us e (g.choose x o y c z) = absurd cc
 place_in_choice a p ts us e (g.is_binary (g.two x o le y)) = absurd cc
@@ -313,7 +313,7 @@ by_placed {b} {P} f left i x y = by (place_tree_of left.tree) refl
 
 -- ---- operators
 
-at_least_some : (n : ℕ) (q : Option (BinaryOp × ℕ)) (o : BinaryOp × ℕ) → at_least n q ≡ Some o → (q ≡ Some o) × (n ≤ o.1)
+pub at_least_some : (n : ℕ) (q : Option (BinaryOp × ℕ)) (o : BinaryOp × ℕ) → at_least n q ≡ Some o → (q ≡ Some o) × (n ≤ o.1)
 at_least_some n None o e = absurd cc
 at_least_some n (Some q) o e = by (nat_le n q.1) refl e
   where
@@ -321,7 +321,7 @@ at_least_some n (Some q) o e = by (nat_le n q.1) refl e
     by true le e = let same : q ≡ o = same_Some q o e in (e, subst (λ (z : BinaryOp × ℕ). n ≤ z.1) same (leb-true n q.1 le))
     by false le e = absurd cc
 
-at_least_none : (n : ℕ) (q : Option (BinaryOp × ℕ)) (o : BinaryOp × ℕ) → at_least n q ≡ None → q ≡ Some o → o.1 < n
+pub at_least_none : (n : ℕ) (q : Option (BinaryOp × ℕ)) (o : BinaryOp × ℕ) → at_least n q ≡ None → q ≡ Some o → o.1 < n
 at_least_none n None o e f = absurd cc
 at_least_none n (Some q) o e f = by (nat_le n q.1) refl e
   where
@@ -438,7 +438,7 @@ module _ (b : Input) (inner : Level → Reader Found) (below : ℕ) (H : Reads b
   unfolding named
   named_yields t ts = by_variable_here t ts _ (λ v. after_name_yields t ts v)
 
-  primary_yields : (t : Token) (ts : List Token) → Yields b (primary inner t.span.line (at b (t ∷ ts))) (Stood (Primary b.types) (suc below) (t ∷ ts))
+  pub primary_yields : (t : Token) (ts : List Token) → Yields b (primary inner t.span.line (at b (t ∷ ts))) (Stood (Primary b.types) (suc below) (t ∷ ts))
   unfolding primary literal worded sees_word next
   primary_yields t ts =
       by_option (literal t.span.line (at b (t ∷ ts))) _ _ _

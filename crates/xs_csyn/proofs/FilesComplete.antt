@@ -1,15 +1,17 @@
--- What is a file by the rules, or a piece of one, is read as that, and so it has no other reading.
-use Rattle.std.proofs.Common.{◌≡◌, ℕ, zero, suc, ◌+◌, ◌-◌, ◌<◌, ◌≤◌, max, Bool, true, false, if◌then◌else◌, ◌&&◌, not, List, [], ◌∷◌, ◌++◌, length, append_assoc, append-nil, Some, Result, Ok, refl, ap, sym, ◌∙◌, arith}
+-- What is a file by the rules, or a piece of one, is read as that, or refused as nested too deep. So it has no other reading.
+use Rattle.std.proofs.Common.{◌≡◌, ℕ, zero, suc, ◌+◌, ◌-◌, ◌<◌, ◌≤◌, max, Bool, true, false, if◌then◌else◌, ◌&&◌, not, List, [], ◌∷◌, ◌++◌, length, append_assoc, append-nil, Some, Result, Ok, Err, ◌⊎◌, inl, inr, refl, ap, sym, ◌∙◌, arith}
 use Rattle.std.proofs.lemmas.Bool.{and_parts, and_right, not-true}
 use Rattle.std.specs.Prelude.{codes}
 use Rattle.xs_base.proofs.ReaderSteps.{same_outcome}
 use Rattle.xs_base.specs.Names.{is_among}
 use Rattle.xs_base.specs.Readers.{head_is, tail}
 use Rattle.xs_base.specs.declared.fault.Fault.{Fault}
+use Rattle.xs_base.specs.declared.fault_codes.TheConstants.{NO_READING_HERE}
 use Rattle.xs_base.specs.declared.source.FileOf.{FileOf}
 use Rattle.xs_base.specs.declared.source.FileOf.TheVariants as which
 use Rattle.xs_ctok.specs.declared.token.TokKind.TheVariants as kind
 use Rattle.xs_ctok.specs.declared.token.Token.{Token}
+use Rattle.xs_csyn.proofs.AnyDepth.{IsRead, at_any_depth, bounded, by_same, carry, is_read, regrouped, under, whole_is_read}
 use Rattle.xs_csyn.proofs.ExpressionsComplete.{found_of, type_done, type_first, whole_read}
 use Rattle.xs_csyn.proofs.Marks.{mark_no_word, marks, name_no_mark, no_mark, type_no_mark, variable_name, word_no_type, word_only, words}
 use Rattle.xs_csyn.proofs.Sizes.{head_shrinks, item_shrinks, parameter_shrinks, part_shrinks, type_shrinks, whole_shrinks}
@@ -26,6 +28,7 @@ use Rattle.xs_csyn.specs.Grammar.{AType, Is, IsWord, MayName, Stars, Whole, Word
 use Rattle.xs_cexpr.specs.ExpressionHeights.{height, heights}
 use Rattle.xs_cstmt.specs.StatementHeights.{depths, tallest_of}
 use Rattle.xs_csyn.specs.FileHeights.{Fit, FitItems, FitsItem}
+use Rattle.xs_csyn.specs.Laws.{TooDeep}
 use Rattle.xs_csyn.specs.StatementGrammar as s
 use Rattle.xs_csyn.specs.StatementGrammar.{AllArguments, ArgumentList, Parts, Rest}
 use Rattle.xs_cstmt.specs.StatementReader.{max_nesting, part, parts, stmt}
@@ -55,7 +58,7 @@ join_kind : (name : List ℕ) (t : Token) → joins name t ≡ true → t.kind �
 join_kind name t j = word_only t.kind (and_parts (is_word_kind t.kind) (is_joined_by join_table name t.text) j).0
 
 -- a type begins with no word of the grammar
-type_no_word : (types : List (List ℕ)) (names : AreNames types) (word : List ℕ) (t : Token) → is_type types t ≡ true → is_no_name word ≡ true
+pub type_no_word : (types : List (List ℕ)) (names : AreNames types) (word : List ℕ) (t : Token) → is_type types t ≡ true → is_no_name word ≡ true
     → is_type_word word ≡ false → is_word word t ≡ false
 type_no_word types names word t is isnt other = by (is_word word t) refl
   where
@@ -84,7 +87,8 @@ some_goes_on : {types : List (List ℕ)} {all : List Par} {ts us : List Token} �
 some_goes_on (g.last_parameter x c) = parameter_goes_on x
 some_goes_on (g.more_parameters x c y) = parameter_goes_on x
 
-module _ (b : Input) (names : AreNames b.types) where
+-- Where `Any` holds, any depth is allowed.
+module _ (Any : Type 0) (b : Input) (names : AreNames b.types) where
   type_token : {to : CType} {t : Token} {ts us : List Token} → AType b.types to (t ∷ ts) us → is_type b.types t ≡ true
   type_token ty = type_first ty
 
@@ -211,10 +215,15 @@ module _ (b : Input) (names : AreNames b.types) where
   unfolding item named_type a_record line sees_word a_name sees_name spelling expect sees next
   record_done t u v w x ts us all k l o f n is few = rw (k, l, o, all_fields_done f few, n, is) refl
 
-  body_done : {all : StmtTrees} {ts us : List Token} → Parts b.types all ts us → depths all + 1 ≤ max_nesting → tallest_of all ≤ max_nesting
-      → length ts < b.turns → body (at b ts) ≡ Ok (list_of all, at b us)
+  -- the bounds of a body
+  abbrev Fitting : StmtTrees → Type 0
+  Fitting all = ((depths all + 1 ≤ max_nesting) × (tallest_of all ≤ max_nesting)) ⊎ Any
+
+  body_done : {all : StmtTrees} {ts us : List Token} → Parts b.types all ts us → Fitting all → length ts < b.turns
+      → IsRead Any (body (at b ts)) (list_of all, at b us)
   unfolding body parts
-  body_done x h l few = parts_done b names x (max_nesting - 1) (omega (arith, h)) l few b.turns (omega (arith, few)) []
+  body_done x fit few =
+      parts_done Any b names x (max_nesting - 1) (under fit (λ k. omega (arith, k.0))) (under fit (λ k. k.1)) few b.turns (omega (arith, few)) []
 
   begins_done : (ts : List Token) → begins_body ts ≡ true → body_begins (at b ts) ≡ Ok (tt, at b ts)
   unfolding body_begins expect_word sees_word expect sees next
@@ -223,22 +232,14 @@ module _ (b : Input) (names : AreNames b.types) where
   begins_done (t ∷ u ∷ ts) e = let p = and_parts (is_word (codes "dXSARGS") t) (is_sign (codes ";") u) e in rw (p.0, p.1) refl
 
   xs_function_done : (t u v w x : Token) (ts us : List Token) (all : StmtTrees) → IsWord (codes "XS") t → Is (codes "(") u → MayName v → Is (codes ")") w
-      → Is (codes "{") x → begins_body ts ≡ true → Parts b.types all ts us → depths all + 1 ≤ max_nesting → tallest_of all ≤ max_nesting
-      → length ts < b.turns
-      → item (at b (t ∷ u ∷ v ∷ w ∷ x ∷ ts)) ≡ Ok (tree.XsFunItem (record { line = t.span.line; name = v.text; body = all }), at b us)
+      → Is (codes "{") x → begins_body ts ≡ true → Parts b.types all ts us → Fitting all → length ts < b.turns
+      → IsRead Any (item (at b (t ∷ u ∷ v ∷ w ∷ x ∷ ts))) (tree.XsFunItem (record { line = t.span.line; name = v.text; body = all }), at b us)
   unfolding item xs_function line sees_word a_name sees_name spelling expect sees next
-  xs_function_done t u v w x ts us all k o n c d begins y h l few =
-      rw (
-        words (codes "XS") (codes "typedef") t k,
-        k,
-        o,
-        n,
-        c,
-        d,
-        begins_done ts begins,
-        body_done y h l few,
-        stmts_of-list_of all,
-      ) refl
+  xs_function_done t u v w x ts us all k o n c d begins y fit few =
+      let other = words (codes "XS") (codes "typedef") t k in
+      let first = begins_done ts begins in
+      carry (body_done y fit few) (λ e r. rw (other, k, o, n, c, d, first, r) refl)
+      (λ r. is_read (rw (other, k, o, n, c, d, first, r, stmts_of-list_of all) refl))
 
   -- an item that begins with a type
   typed_item : (ts : List Token) → head_is (is_type b.types) ts ≡ true → item (at b ts) ≡ function (line (at b ts)) (at b ts)
@@ -259,28 +260,26 @@ module _ (b : Input) (names : AreNames b.types) where
   prototype_done h t ts us x is few = rw (head_done x few, is) refl
 
   function_done : (h : Head) (t : Token) (ts us vs : List Token) (all : StmtTrees) → AHead b.types h ts (t ∷ us) → Is (codes "{") t → Parts b.types all us vs
-      → depths all + 1 ≤ max_nesting → tallest_of all ≤ max_nesting → length ts < b.turns
-      → function (line (at b ts)) (at b ts) ≡ Ok (tree.FunctionItem (record { head = h; body = all }), at b vs)
+      → Fitting all → length ts < b.turns
+      → IsRead Any (function (line (at b ts)) (at b ts)) (tree.FunctionItem (record { head = h; body = all }), at b vs)
   unfolding function sees after next expect
-  function_done h t ts us vs all x o y d l few =
-      rw (
-        head_done x few,
-        marks (codes "{") (codes ";") t o,
-        o,
-        body_done y d l (omega (arith, few, head_shrinks x)),
-        stmts_of-list_of all,
-      ) refl
+  function_done h t ts us vs all x o y fit few =
+      let front = head_done x few in
+      let other = marks (codes "{") (codes ";") t o in
+      carry (body_done y fit (omega (arith, few, head_shrinks x))) (λ e r. rw (front, other, o, r) refl)
+      (λ r. is_read (rw (front, other, o, r, stmts_of-list_of all) refl))
 
-  item_done : {one : ItemTree} {ts us : List Token} → Item b.types one ts us → FitsItem one → length ts < b.turns → item (at b ts) ≡ Ok (one, at b us)
+  item_done : {one : ItemTree} {ts us : List Token} → Item b.types one ts us → FitsItem one ⊎ Any → length ts < b.turns
+      → IsRead Any (item (at b ts)) (one, at b us)
   item_done (g.a_typedef {to = to} {t = t} {u = u} {v = v} {ts = ts} {us = us} w ty n is) fit few =
-      typedef_done t u v ts us to w ty n is (omega (arith, few))
+      is_read (typedef_done t u v ts us to w ty n is (omega (arith, few)))
   item_done (g.a_record {all = all} {t = t} {u = u} {v = v} {w = w} {x = x} {ts = ts} {us = us} k l o f n is) fit few =
-      record_done t u v w x ts us all k l o f n is (omega (arith, few))
-  item_done (g.prototype {head = h} {t = t} {ts = ts} {us = us} x is) fit few = typed_item ts (head_token x) ∙ prototype_done h t ts us x is few
+      is_read (record_done t u v w x ts us all k l o f n is (omega (arith, few)))
+  item_done (g.prototype {head = h} {t = t} {ts = ts} {us = us} x is) fit few = is_read (typed_item ts (head_token x) ∙ prototype_done h t ts us x is few)
   item_done (g.function {head = h} {body = all} {t = t} {ts = ts} {us = us} {vs = vs} x o y) fit few =
-      typed_item ts (head_token x) ∙ function_done h t ts us vs all x o y fit.0 fit.1 few
+      by_same (typed_item ts (head_token x)) (function_done h t ts us vs all x o y fit few)
   item_done (g.xs_function {body = all} {t = t} {u = u} {v = v} {w = w} {x = x} {ts = ts} {us = us} k o n c d begins y) fit few =
-      xs_function_done t u v w x ts us all k o n c d begins y fit.0 fit.1 (omega (arith, few))
+      xs_function_done t u v w x ts us all k o n c d begins y fit (omega (arith, few))
 
 -- ---- names of types
 
@@ -298,7 +297,7 @@ with_one types name names isnt = by (is_among types name)
 name_is_one : (t : Token) → MayName t → is_no_name t.text ≡ false
 name_is_one t n = not-true (is_no_name t.text) (and_parts (is_word_kind t.kind) (not (is_no_name t.text)) n).1
 
-names_after : {types : List (List ℕ)} {one : ItemTree} {ts us : List Token} → Item types one ts us → AreNames types
+pub names_after : {types : List (List ℕ)} {one : ItemTree} {ts us : List Token} → Item types one ts us → AreNames types
     → AreNames (with_name types (type_of_item one))
 names_after {types} (g.a_typedef {u = u} w ty n is) names = with_one types u.text names (name_is_one u n)
 names_after {types} (g.a_record {w = w} k l o f n is) names = with_one types w.text names (name_is_one w n)
@@ -318,27 +317,34 @@ items_end : (n : ℕ) (b : Input) (sofar : List ItemTree) → items_from (suc n)
 unfolding items_from at_end
 items_end n b sofar = rw (append-nil sofar) refl
 
--- the items that were read, and some input after them
-record ItemsRead (b : Input) (n : ℕ) (sofar all : List ItemTree) (ts : List Token) : Type 0 where
-  ends : Input
-  is : items_from n sofar (at b ts) ≡ Ok (sofar ++ all, ends)
+item_fails : (n : ℕ) (b : Input) (sofar : List ItemTree) (ts us : List Token) (e : Fault) → length us < length ts → item (at b ts) ≡ Err e
+    → items_from (suc n) sofar (at b ts) ≡ Err e
+unfolding items_from at_end
+item_fails n b sofar [] us e less r = absurd (omega (arith, less))
+item_fails n b sofar (t ∷ ts) us e less r = rw r refl
 
-items_done : {types : List (List ℕ)} {all : List ItemTree} {ts : List Token} → File types all ts → (b : Input) → b.types ≡ types → AreNames types
-    → FitItems all → length ts < b.turns → (n : ℕ) → length ts < n → (sofar : List ItemTree) → ItemsRead b n sofar all ts
-items_done g.file_over b e names fit few zero len sofar = absurd (omega (arith, len))
-items_done g.file_over b e names fit few (suc n) len sofar = record { ends = at b []; is = items_end n b sofar }
-items_done (g.item x y) b e names fit few zero len sofar = absurd (omega (arith, len))
-items_done (g.item {types = types} {one = one} {all = all} {ts = ts} {us = us} x y) b e names fit few (suc n) len sofar =
+-- what comes of reading the items, with some input after them
+pub record ItemsRead (Any : Type 0) (b : Input) (n : ℕ) (sofar all : List ItemTree) (ts : List Token) : Type 0 where
+  pub ends : Input
+  pub is : IsRead Any (items_from n sofar (at b ts)) (sofar ++ all, ends)
+
+pub items_done : {types : List (List ℕ)} {all : List ItemTree} {ts : List Token} (Any : Type 0) → File types all ts → (b : Input) → b.types ≡ types
+    → AreNames types → FitItems all ⊎ Any → length ts < b.turns → (n : ℕ) → length ts < n → (sofar : List ItemTree) → ItemsRead Any b n sofar all ts
+items_done Any g.file_over b e names fit few zero len sofar = absurd (omega (arith, len))
+items_done Any g.file_over b e names fit few (suc n) len sofar = record { ends = at b []; is = is_read (items_end n b sofar) }
+items_done Any (g.item x y) b e names fit few zero len sofar = absurd (omega (arith, len))
+items_done Any (g.item {types = types} {one = one} {all = all} {ts = ts} {us = us} x y) b e names fit few (suc n) len sofar =
     let there : Item b.types one ts us = rw e x in
     let own : AreNames b.types = rw e names in
-    let m = items_done y (with_types_of one b) (ap (λ known. with_name known (type_of_item one)) e) (names_after x names) fit.1
+    let m = items_done Any y (with_types_of one b) (ap (λ known. with_name known (type_of_item one)) e) (names_after x names) (under fit (λ k. k.1))
     (omega (arith, few, item_shrinks x)) n (omega (arith, len, item_shrinks x)) (sofar ++ one ∷ []) in
     record {
       ends = m.ends;
-      is = item_step n b sofar one ts us (item_done b own there fit.0 few) (item_shrinks x) ∙ (m.is ∙ rw (append_assoc sofar (one ∷ []) all) refl);
+      is = carry (item_done Any b own there (under fit (λ k. k.0)) few) (λ e r. item_fails n b sofar ts us e (item_shrinks x) r)
+          (λ r. by_same (item_step n b sofar one ts us r (item_shrinks x)) (regrouped (append_assoc sofar (one ∷ []) all) m.is));
     }
 
-kept_shrinks : (whole pair : Bool) (ts : List Token) → length (kept_from whole pair ts) ≤ length ts
+pub kept_shrinks : (whole pair : Bool) (ts : List Token) → length (kept_from whole pair ts) ≤ length ts
 kept_shrinks whole pair [] = omega arith
 kept_shrinks whole true (t ∷ ts) = omega (arith, kept_shrinks whole false ts)
 kept_shrinks whole false (t ∷ ts) = by (is_passed whole t) (is_passed_pair t ts) (kept_shrinks whole false ts) (kept_shrinks whole true ts)
@@ -349,16 +355,43 @@ kept_shrinks whole false (t ∷ ts) = by (is_passed whole t) (is_passed_pair t t
     by false true x y = omega (arith, y)
     by false false x y = omega (arith, x)
 
-items_of_done : (i : Input) (ts : List Token) (all : List ItemTree) → i ≡ at i ts → (m : ItemsRead i i.turns [] all ts) → items_of i ≡ Ok all
-items_of_done i ts all e m = rw (ap (items_from i.turns []) e ∙ m.is) refl
+items_of_done : (i : Input) (ts : List Token) (all : List ItemTree) (ends : Input) → i ≡ at i ts → items_from i.turns [] (at i ts) ≡ Ok (all, ends)
+    → items_of i ≡ Ok all
+items_of_done i ts all ends same r = rw (ap (items_from i.turns []) same ∙ r) refl
 
-pub file_complete : (file : FileOf) (last : ℕ) (ts : List Token) (f : FileTree) → IsFile f ts → FitItems f.items → file_of file last ts ≡ Ok f
+items_of_fails : (i : Input) (ts : List Token) (e : Fault) → i ≡ at i ts → items_from i.turns [] (at i ts) ≡ Err e → items_of i ≡ Err e
+items_of_fails i ts e same r = rw (ap (items_from i.turns []) same ∙ r) refl
+
+file_is_read : (Any : Type 0) (file : FileOf) (last : ℕ) (ts : List Token) (f : FileTree) → IsFile f ts → FitItems f.items ⊎ Any
+    → IsRead Any (file_of file last ts) f
 unfolding file_of
-file_complete file last ts f x fit =
+file_is_read Any file last ts f x fit =
     let i : Input = start true ts [] file last in
     let few : length (kept true ts) < i.turns = omega (arith, kept_shrinks true false ts) in
-    let m = items_done x.stands i refl tt fit few i.turns few [] in
-    rw (items_of_done i (kept true ts) f.items refl m, ← x.defines, ← x.of_model) refl
+    let m = items_done Any x.stands i refl tt fit few i.turns few [] in
+    carry (m.is) (λ e r. rw (items_of_fails i (kept true ts) e refl r) refl)
+    (λ r. is_read (rw (items_of_done i (kept true ts) f.items m.ends refl r, ← x.defines, ← x.of_model) refl))
+
+pub file_complete : (file : FileOf) (last : ℕ) (ts : List Token) (f : FileTree) → IsFile f ts → FitItems f.items → file_of file last ts ≡ Ok f
+file_complete file last ts f x fit = bounded (file_is_read ⊥ file last ts f x (inl fit))
+
+pub file_deep : (file : FileOf) (last : ℕ) (ts : List Token) (f : FileTree) → IsFile f ts
+    → (file_of file last ts ≡ Ok f) ⊎ TooDeep (file_of file last ts)
+file_deep file last ts f x = at_any_depth (file_is_read (Unit {0}) file last ts f x (inr tt))
+
+pub other_code : {A : Type 0} (answer : Result A Fault) (e : Fault) → answer ≡ Err e → e.code ≡ NO_READING_HERE → TooDeep answer → ⊥
+other_code answer e is code x = absurd (omega (arith, sym x.code ∙ (ap (λ (f : Fault). f.code) (same x.refusal e (sym x.is ∙ is)) ∙ code)))
+  where
+    same : {A : Type 0} (f h : Fault) → ◌≡◌ {A = Result A Fault} (Err f) (Err h) → f ≡ h
+    same f h e = cc
+
+pub file_unread : (file : FileOf) (last : ℕ) (ts : List Token) (e : Fault) → file_of file last ts ≡ Err e → e.code ≡ NO_READING_HERE → (f : FileTree)
+    → IsFile f ts → ⊥
+file_unread file last ts e is code f x = by (file_of file last ts) is (file_deep file last ts f x)
+  where
+    by : (answer : Result FileTree Fault) → answer ≡ Err e → (answer ≡ Ok f) ⊎ TooDeep answer → ⊥
+    by answer is (inl read) = absurd cc
+    by answer is (inr deep) = other_code answer e is code deep
 
 pub file_unique : (ts : List Token) (f h : FileTree) → IsFile f ts → FitItems f.items → IsFile h ts → FitItems h.items → f ≡ h
 file_unique ts f h x fx y fy = same f h (sym (file_complete which.Xs 0 ts f x fx) ∙ file_complete which.Xs 0 ts h y fy)
@@ -378,36 +411,62 @@ unfolding rest_from at_end
 rest_step b room n sofar one [] us r less = absurd (omega (arith, less))
 rest_step b room n sofar one (t ∷ ts) us r less = rw r refl
 
-rest_done : (b : Input) (names : AreNames b.types) (room : ℕ) {all : StmtTrees} {ts : List Token} → Rest b.types all ts → depths all ≤ room
-    → tallest_of all ≤ max_nesting → length ts < b.turns → (n : ℕ) → length ts < n → (sofar : List StmtTree)
-    → rest_from (stmt room) n sofar (at b ts) ≡ Ok (sofar ++ list_of all, at b [])
-rest_done b names room s.rest_over h l few zero len sofar = absurd (omega (arith, len))
-rest_done b names room s.rest_over h l few (suc n) len sofar = rest_end b room n sofar
-rest_done b names room (s.rest_part x y) h l few zero len sofar = absurd (omega (arith, len))
-rest_done b names room (s.rest_part {s = one} {all = all} {ts = ts} {us = us} x y) h l few (suc n) len sofar =
-    rest_step b room n sofar one ts us (part_done b names x room (omega (arith, h)) (omega (arith, l)) few) (part_shrinks x)
-    ∙ (rest_done b names room y (omega (arith, h)) (omega (arith, l)) (omega (arith, few, part_shrinks x)) n (omega (arith, len, part_shrinks x))
-    (sofar ++ one ∷ []) ∙ rw (append_assoc sofar (one ∷ []) (list_of all)) refl)
+rest_fails : (b : Input) (room n : ℕ) (sofar : List StmtTree) (ts us : List Token) (e : Fault) → length us < length ts → part (stmt room) (at b ts) ≡ Err e
+    → rest_from (stmt room) (suc n) sofar (at b ts) ≡ Err e
+unfolding rest_from at_end
+rest_fails b room n sofar [] us e less r = absurd (omega (arith, less))
+rest_fails b room n sofar (t ∷ ts) us e less r = rw r refl
+
+pub rest_done : (Any : Type 0) (b : Input) (names : AreNames b.types) (room : ℕ) {all : StmtTrees} {ts : List Token} → Rest b.types all ts
+    → (depths all ≤ room) ⊎ Any → (tallest_of all ≤ max_nesting) ⊎ Any → length ts < b.turns → (n : ℕ) → length ts < n → (sofar : List StmtTree)
+    → IsRead Any (rest_from (stmt room) n sofar (at b ts)) (sofar ++ list_of all, at b [])
+rest_done Any b names room s.rest_over h l few zero len sofar = absurd (omega (arith, len))
+rest_done Any b names room s.rest_over h l few (suc n) len sofar = is_read (rest_end b room n sofar)
+rest_done Any b names room (s.rest_part x y) h l few zero len sofar = absurd (omega (arith, len))
+rest_done Any b names room (s.rest_part {s = one} {all = all} {ts = ts} {us = us} x y) h l few (suc n) len sofar =
+    carry (part_done Any b names x room (under h (λ k. omega (arith, k))) (under l (λ k. omega (arith, k))) few)
+    (λ e r. rest_fails b room n sofar ts us e (part_shrinks x) r)
+    (λ r. by_same (rest_step b room n sofar one ts us r (part_shrinks x))
+    (regrouped (append_assoc sofar (one ∷ []) (list_of all))
+    (rest_done Any b names room y (under h (λ k. omega (arith, k))) (under l (λ k. omega (arith, k))) (omega (arith, few, part_shrinks x)) n
+    (omega (arith, len, part_shrinks x)) (sofar ++ one ∷ []))))
 
 list_of-stmts_of : (all : List StmtTree) → list_of (stmts_of all) ≡ all
 list_of-stmts_of [] = refl
 list_of-stmts_of (one ∷ all) = ap (λ more. one ∷ more) (list_of-stmts_of all)
 
-pub block_complete : (file : FileOf) (last : ℕ) (types : List (List ℕ)) (around : ℕ) (ts : List Token) (all : List StmtTree) → AreNames types
-    → Rest types (stmts_of all) (kept false ts) → Fit (max_nesting - around) (stmts_of all) → block_of file last types around ts ≡ Ok all
+block_is_read : (Any : Type 0) (file : FileOf) (last : ℕ) (types : List (List ℕ)) (around : ℕ) (ts : List Token) (all : List StmtTree) → AreNames types
+    → Rest types (stmts_of all) (kept false ts) → Fit (max_nesting - around) (stmts_of all) ⊎ Any → IsRead Any (block_of file last types around ts) all
 unfolding block_of
-block_complete file last types around ts all names x fit =
+block_is_read Any file last types around ts all names x fit =
     let i : Input = start false ts types file last in
     let few : length (kept false ts) < i.turns = omega (arith, kept_shrinks false false ts) in
-    rw (rest_done i names (max_nesting - around) x fit.0 fit.1 few i.turns few [], list_of-stmts_of all) refl
+    carry (rest_done Any i names (max_nesting - around) x (under fit (λ k. k.0)) (under fit (λ k. k.1)) few i.turns few []) (λ e r. rw r refl)
+    (λ r. is_read (rw (r, list_of-stmts_of all) refl))
+
+pub block_complete : (file : FileOf) (last : ℕ) (types : List (List ℕ)) (around : ℕ) (ts : List Token) (all : List StmtTree) → AreNames types
+    → Rest types (stmts_of all) (kept false ts) → Fit (max_nesting - around) (stmts_of all) → block_of file last types around ts ≡ Ok all
+block_complete file last types around ts all names x fit = bounded (block_is_read ⊥ file last types around ts all names x (inl fit))
+
+pub block_deep : (file : FileOf) (last : ℕ) (types : List (List ℕ)) (around : ℕ) (ts : List Token) (all : List StmtTree) → AreNames types
+    → Rest types (stmts_of all) (kept false ts) → (block_of file last types around ts ≡ Ok all) ⊎ TooDeep (block_of file last types around ts)
+block_deep file last types around ts all names x = at_any_depth (block_is_read (Unit {0}) file last types around ts all names x (inr tt))
+
+expr_is_read : (Any : Type 0) (file : FileOf) (last : ℕ) (types : List (List ℕ)) (around : ℕ) (ts : List Token) (a : ExprTree) → AreNames types
+    → Whole types a (kept false ts) [] → (height a ≤ max_nesting - around) ⊎ Any → IsRead Any (expr_of file last types around ts) a
+unfolding expr_of at_end
+expr_is_read Any file last types around ts a names x h =
+    let i : Input = start false ts types file last in
+    let few : length (kept false ts) < i.turns = omega (arith, kept_shrinks false false ts) in
+    carry (whole_is_read Any i names x (max_nesting - around) h few the_end) (λ e r. rw r refl) (λ r. is_read (rw r refl))
 
 pub expr_complete : (file : FileOf) (last : ℕ) (types : List (List ℕ)) (around : ℕ) (ts : List Token) (a : ExprTree) → AreNames types
     → Whole types a (kept false ts) [] → height a ≤ max_nesting - around → expr_of file last types around ts ≡ Ok a
-unfolding expr_of at_end
-expr_complete file last types around ts a names x h =
-    let i : Input = start false ts types file last in
-    let few : length (kept false ts) < i.turns = omega (arith, kept_shrinks false false ts) in
-    rw (whole_read i names x (max_nesting - around) h few the_end) refl
+expr_complete file last types around ts a names x h = bounded (expr_is_read ⊥ file last types around ts a names x (inl h))
+
+pub expr_deep : (file : FileOf) (last : ℕ) (types : List (List ℕ)) (around : ℕ) (ts : List Token) (a : ExprTree) → AreNames types
+    → Whole types a (kept false ts) [] → (expr_of file last types around ts ≡ Ok a) ⊎ TooDeep (expr_of file last types around ts)
+expr_deep file last types around ts a names x = at_any_depth (expr_is_read (Unit {0}) file last types around ts a names x (inr tt))
 
 pub expr_unique : (types : List (List ℕ)) (ts : List Token) (a c : ExprTree) → AreNames types → Whole types a ts [] → Whole types c ts [] → a ≡ c
 expr_unique types ts a c names x y =
@@ -434,37 +493,56 @@ argument_more : (b : Input) (room n : ℕ) (sofar : List ExprTree) (a : ExprTree
 unfolding args_from sees after next
 argument_more b room n sofar a t ts us r c = rw (r, c) refl
 
-arguments_done : (b : Input) (names : AreNames b.types) (room : ℕ) {all : List ExprTree} {ts us : List Token} → ArgumentList b.types all ts us
-    → heights (exprs_of all) ≤ room → Ends us → Stop (codes ",") us → length ts < b.turns → (n : ℕ) → length ts ≤ n → (sofar : List ExprTree)
-    → args_from room n sofar (at b ts) ≡ Ok (sofar ++ all, at b us)
-arguments_done b names room (s.last_argument x) h ends stop few zero len sofar = absurd (omega (arith, len, whole_shrinks x))
-arguments_done b names room (s.last_argument {a = a} {ts = ts} {us = us} x) h ends stop few (suc n) len sofar =
-    argument_last b room n sofar a ts us (whole_read b names x room (omega (arith, h)) few ends) stop
-arguments_done b names room (s.more_arguments x c y) h ends stop few zero len sofar = absurd (omega (arith, len, whole_shrinks x))
-arguments_done b names room (s.more_arguments {a = a} {all = all} {t = t} {ts = ts} {us = us} x c y) h ends stop few (suc n) len sofar =
-    argument_more b room n sofar a t ts us (whole_read b names x room (omega (arith, h)) few (comma t us c)) c
-    ∙ (arguments_done b names room y (omega (arith, h)) ends stop (omega (arith, few, whole_shrinks x)) n (omega (arith, len, whole_shrinks x))
-    (sofar ++ a ∷ []) ∙ rw (append_assoc sofar (a ∷ []) all) refl)
+argument_fails : (b : Input) (room n : ℕ) (sofar : List ExprTree) (ts : List Token) (e : Fault) → expr room level.Whole (at b ts) ≡ Err e
+    → args_from room (suc n) sofar (at b ts) ≡ Err e
+unfolding args_from
+argument_fails b room n sofar ts e r = rw r refl
+
+arguments_done : (Any : Type 0) (b : Input) (names : AreNames b.types) (room : ℕ) {all : List ExprTree} {ts us : List Token}
+    → ArgumentList b.types all ts us → (heights (exprs_of all) ≤ room) ⊎ Any → Ends us → Stop (codes ",") us → length ts < b.turns → (n : ℕ)
+    → length ts ≤ n → (sofar : List ExprTree) → IsRead Any (args_from room n sofar (at b ts)) (sofar ++ all, at b us)
+arguments_done Any b names room (s.last_argument x) h ends stop few zero len sofar = absurd (omega (arith, len, whole_shrinks x))
+arguments_done Any b names room (s.last_argument {a = a} {ts = ts} {us = us} x) h ends stop few (suc n) len sofar =
+    carry (whole_is_read Any b names x room (under h (λ k. omega (arith, k))) few ends) (λ e r. argument_fails b room n sofar ts e r)
+    (λ r. is_read (argument_last b room n sofar a ts us r stop))
+arguments_done Any b names room (s.more_arguments x c y) h ends stop few zero len sofar = absurd (omega (arith, len, whole_shrinks x))
+arguments_done Any b names room (s.more_arguments {a = a} {all = all} {t = t} {ts = ts} {us = us} x c y) h ends stop few (suc n) len sofar =
+    carry (whole_is_read Any b names x room (under h (λ k. omega (arith, k))) few (comma t us c)) (λ e r. argument_fails b room n sofar ts e r)
+    (λ r. by_same (argument_more b room n sofar a t ts us r c)
+    (regrouped (append_assoc sofar (a ∷ []) all)
+    (arguments_done Any b names room y (under h (λ k. omega (arith, k))) ends stop (omega (arith, few, whole_shrinks x)) n
+    (omega (arith, len, whole_shrinks x)) (sofar ++ a ∷ []))))
 
 abbrev given : List ExprTree → Result (List ExprTree) Fault
 given all = Ok all
 
-args_at : (i : Input) (names : AreNames i.types) (room : ℕ) {all : List ExprTree} {ts : List Token} → AllArguments i.types all ts
-    → heights (exprs_of all) ≤ room → length ts < i.turns → (if at_end (at i ts) then given [] else whole_of (some_args room (at i ts))) ≡ Ok all
+args_at : (Any : Type 0) (i : Input) (names : AreNames i.types) (room : ℕ) {all : List ExprTree} {ts : List Token} → AllArguments i.types all ts
+    → (heights (exprs_of all) ≤ room) ⊎ Any → length ts < i.turns
+    → IsRead Any (if at_end (at i ts) then given [] else whole_of (some_args room (at i ts))) all
 unfolding at_end some_args
-args_at i names room s.no_arguments h few = refl
-args_at i names room (s.arguments {all = all} {ts = ts} x) h few =
-    rw (some_tokens ts (omega (arith, arguments_shrink x)), arguments_done i names room x h the_end refl few i.turns (omega (arith, few)) []) refl
+args_at Any i names room s.no_arguments h few = is_read refl
+args_at Any i names room (s.arguments {all = all} {ts = ts} x) h few =
+    let some = some_tokens ts (omega (arith, arguments_shrink x)) in
+    carry (arguments_done Any i names room x h the_end refl few i.turns (omega (arith, few)) []) (λ e r. rw (some, r) refl)
+    (λ r. is_read (rw (some, r) refl))
   where
     some_tokens : (ts : List Token) → 0 < length ts → is_empty ts ≡ false
     some_tokens [] some = absurd (omega (arith, some))
     some_tokens (t ∷ ts) some = refl
 
+args_are_read : (Any : Type 0) (file : FileOf) (last : ℕ) (types : List (List ℕ)) (around : ℕ) (ts : List Token) (all : List ExprTree) → AreNames types
+    → AllArguments types all (kept false ts) → (heights (exprs_of all) ≤ max_nesting - around) ⊎ Any → IsRead Any (args_of file last types around ts) all
+unfolding args_of
+args_are_read Any file last types around ts all names x h =
+    args_at Any (start false ts types file last) names (max_nesting - around) x h (omega (arith, kept_shrinks false false ts))
+
 pub args_complete : (file : FileOf) (last : ℕ) (types : List (List ℕ)) (around : ℕ) (ts : List Token) (all : List ExprTree) → AreNames types
     → AllArguments types all (kept false ts) → heights (exprs_of all) ≤ max_nesting - around → args_of file last types around ts ≡ Ok all
-unfolding args_of
-args_complete file last types around ts all names x h =
-    args_at (start false ts types file last) names (max_nesting - around) x h (omega (arith, kept_shrinks false false ts))
+args_complete file last types around ts all names x h = bounded (args_are_read ⊥ file last types around ts all names x (inl h))
+
+pub args_deep : (file : FileOf) (last : ℕ) (types : List (List ℕ)) (around : ℕ) (ts : List Token) (all : List ExprTree) → AreNames types
+    → AllArguments types all (kept false ts) → (args_of file last types around ts ≡ Ok all) ⊎ TooDeep (args_of file last types around ts)
+args_deep file last types around ts all names x = at_any_depth (args_are_read (Unit {0}) file last types around ts all names x (inr tt))
 
 pub block_unique : (types : List (List ℕ)) (around : ℕ) (ts : List Token) (all more : List StmtTree) → AreNames types
     → Rest types (stmts_of all) (kept false ts) → Fit (max_nesting - around) (stmts_of all) → Rest types (stmts_of more) (kept false ts)

@@ -45,7 +45,7 @@ one_more_field : {types : List (List ℕ)} {p : Par} {all : List Par} {ts us vs 
     → Fields types (p ∷ all) ts vs
 one_more_field (one_field ty n semi) x = g.field ty n semi x
 
-abbrev AnItem : List (List ℕ) → List Token → ItemTree → List Token → Type 0
+abbrev pub AnItem : List (List ℕ) → List Token → ItemTree → List Token → Type 0
 AnItem types ts one us = Item types one ts us × FitsItem one
 
 false_is_not : ◌≡◌ {A = Bool} false true → ⊥
@@ -71,7 +71,7 @@ module _ (b : Input) where
       (λ _ isnt. step _ _ (field_yields ts) (λ one us x. weaken (fields_yield n (sofar ++ one ∷ []) us)
       (λ found vs m. adds_more {R = Fields b.types} sofar one m (λ added y. one_more_field x y))))
 
-  all_fields_yield : (ts : List Token) → Yields b (fields (at b ts)) (λ all us. Fields b.types all ts us)
+  pub all_fields_yield : (ts : List Token) → Yields b (fields (at b ts)) (λ all us. Fields b.types all ts us)
   unfolding fields
   all_fields_yield ts = weaken (fields_yield b.turns [] ts) (λ found us m. adds_all m)
 
@@ -176,7 +176,7 @@ module _ (b : Input) where
       (λ isnt. by_eat (λ _. Unit {0}) (λ js all vs. Parameters b.types all js vs) (codes ")") (t ∷ u ∷ us) _ _ tt
       (λ v vs _ close. done [] vs (g.no_parameters close)) (λ _ isnt. some_yield (t ∷ u ∷ us)))
 
-  head_yields : (t : Token) (ts : List Token) → Yields b (head t.span.line (at b (t ∷ ts))) (λ h us. AHead b.types h (t ∷ ts) us)
+  pub head_yields : (t : Token) (ts : List Token) → Yields b (head t.span.line (at b (t ∷ ts))) (λ h us. AHead b.types h (t ∷ ts) us)
   unfolding head
   head_yields t ts =
       step _ _ (type_yields b (t ∷ ts))

@@ -9,7 +9,7 @@ use Rattle.xs_ctok.specs.declared.token.TokKind.{TokKind}
 use Rattle.xs_ctok.specs.declared.token.TokKind.TheVariants as kind
 use Rattle.xs_ctok.specs.declared.token.Token.{Token}
 use Rattle.xs_csyn.proofs.Marks.{is_word_of}
-use Rattle.xs_csyn.proofs.Tables.{EachRow, found_row}
+use Rattle.xs_cinput.proofs.Tables.{EachRow, found_row}
 use Rattle.xs_csyn.proofs.Yields.{at}
 use Rattle.xs_csyn.specs.Grammar.{Is, IsVariable, IsWord, MayName}
 use Rattle.xs_cinput.specs.Operators.{listed}
@@ -41,20 +41,20 @@ first_fits types [] ts x = refl
 first_fits types (s ∷ ss) [] x = absurd x
 first_fits types (s ∷ ss) (t ∷ ts) x = x.0
 
-spelt_sign : (m : List ℕ) (t : Token) → Is m t → is_spelt m t ≡ true
+pub spelt_sign : (m : List ℕ) (t : Token) → Is m t → is_spelt m t ≡ true
 spelt_sign m t is =
     let h = and_parts (is_punct_kind t.kind) (bytes_eq t.text m) is in
     and_from (is_word_kind t.kind || is_punct_kind t.kind) (bytes_eq t.text m) (or_right (is_word_kind t.kind) (is_punct_kind t.kind) h.0) h.1
 
-spelt_word : (m : List ℕ) (t : Token) → IsWord m t → is_spelt m t ≡ true
+pub spelt_word : (m : List ℕ) (t : Token) → IsWord m t → is_spelt m t ≡ true
 spelt_word m t is =
     let h = and_parts (is_word_kind t.kind) (bytes_eq t.text m) is in
     and_from (is_word_kind t.kind || is_punct_kind t.kind) (bytes_eq t.text m) (or_left (is_word_kind t.kind) (is_punct_kind t.kind) h.0) h.1
 
-int_fits : (l : Literal) (t : Token) → t.kind ≡ kind.Int l → is_int t ≡ true
+pub int_fits : (l : Literal) (t : Token) → t.kind ≡ kind.Int l → is_int t ≡ true
 int_fits l t k = ap (λ s. option_map_or (λ x. true) (int_of s) false) k
 
-text_fits : (x : List ℕ) (t : Token) → t.kind ≡ kind.Text x → is_text t ≡ true
+pub text_fits : (x : List ℕ) (t : Token) → t.kind ≡ kind.Text x → is_text t ≡ true
 text_fits x t k = ap (λ s. option_map_or (λ y. true) (text_of s) false) k
 
 -- ---- the rows of the table
@@ -150,7 +150,7 @@ has_row t row e = by t.kind refl e
     by kind.Word k f = record { kind_is = k; facts = found_row FormRow forms t.text row rows_are f }
     by k is f = absurd cc
 
-ahead : (types : List (List ℕ)) (t : Token) (ts : List Token) (which : Form) (slots : List Part) → form_row t ≡ Some (which, slots) → FitAll types slots ts
+pub ahead : (types : List (List ℕ)) (t : Token) (ts : List Token) (which : Form) (slots : List Part) → form_row t ≡ Some (which, slots) → FitAll types slots ts
     → Ahead types which t ts
 ahead types t ts which slots row x =
     let h = has_row t (which, slots) row in
@@ -163,7 +163,7 @@ ahead types t ts which slots row x =
       no_default = h.facts.2;
     }
 
-row_of : (word : List ℕ) (t : Token) → IsWord word t → form_row t ≡ listed forms word
+pub row_of : (word : List ℕ) (t : Token) → IsWord word t → form_row t ≡ listed forms word
 row_of word t is = let k = is_word_of word t is in rw (k.0, k.1) refl
 
 -- a form that has been read

@@ -9,7 +9,7 @@ use Rattle.xs_ctok.specs.declared.token.TokKind.{TokKind}
 use Rattle.xs_ctok.specs.declared.token.TokKind.TheVariants as kind
 use Rattle.xs_ctok.specs.declared.token.Token.{Token}
 use Rattle.xs_csyn.proofs.Marks.{is_word_from}
-use Rattle.xs_csyn.proofs.Tables.{EachRow, found_row}
+use Rattle.xs_cinput.proofs.Tables.{EachRow, found_row}
 use Rattle.xs_csyn.proofs.Yields.{Yields, at, by_expect, by_name, by_passed, by_variable, by_word, done, fails, step}
 use Rattle.xs_csyn.specs.Grammar.{Is, IsVariable, IsWord}
 use Rattle.xs_cinput.specs.Operators.{listed}
@@ -29,7 +29,7 @@ pub int_kind : (k : TokKind) (l : Literal) → int_of k ≡ Some l → k ≡ kin
 int_kind (kind.Int x) l e = ap kind.Int (same_Some x l e)
 int_kind k l e = absurd cc
 
-text_kind : (k : TokKind) (x : List ℕ) → text_of k ≡ Some x → k ≡ kind.Text x
+pub text_kind : (k : TokKind) (x : List ℕ) → text_of k ≡ Some x → k ≡ kind.Text x
 text_kind (kind.Text y) x e = ap kind.Text (same_Some y x e)
 text_kind k x e = absurd cc
 
@@ -60,7 +60,7 @@ by_one F P ts go f x = by_passed F P is_one ts go f x
 
 -- ---- the first word of a form
 
-abbrev WordOf : Form → List ℕ → Type 0
+abbrev pub WordOf : Form → List ℕ → Type 0
 WordOf (the.Word w) word = Unit {0}
 WordOf the.ResetStack word = word ≡ codes "SP"
 WordOf the.SetIndex word = word ≡ codes "XSANY"
@@ -69,28 +69,28 @@ WordOf the.KeptNewXs word = word ≡ codes "cv"
 WordOf the.NewRecord word = word ≡ codes "Newxz"
 WordOf the.Unused word = word ≡ codes "PERL_UNUSED_VAR"
 
-abbrev RowOf : List ℕ → Form × List Part → Type 0
+abbrev pub RowOf : List ℕ → Form × List Part → Type 0
 RowOf word row = WordOf row.0 word
 
-rows_are : EachRow RowOf forms
+pub rows_are : EachRow RowOf forms
 unfolding forms
 rows_are = (tt, (tt, (tt, (tt, (tt, (tt, (tt, (tt, (tt, (tt, (tt, (tt, (tt, (refl, (refl, (refl, (refl, (refl, (refl, tt)))))))))))))))))))
 
 -- the token is a word of the table, of this form
-record Begins (which : Form) (t : Token) : Type 0 where
-  slots : List Part
-  is : form_row t ≡ Some (which, slots)
-  is_a_word : is_word_kind t.kind ≡ true
-  spelt : WordOf which t.text
+pub record Begins (which : Form) (t : Token) : Type 0 where
+  pub slots : List Part
+  pub is : form_row t ≡ Some (which, slots)
+  pub is_a_word : is_word_kind t.kind ≡ true
+  pub spelt : WordOf which t.text
 
-begins_by : (t : Token) (row : Form × List Part) → form_row t ≡ Some row → Begins row.0 t
+pub begins_by : (t : Token) (row : Form × List Part) → form_row t ≡ Some row → Begins row.0 t
 begins_by t row e = by (is_word_kind t.kind) refl e
   where
     by : (c : Bool) → is_word_kind t.kind ≡ c → (if c then listed forms t.text else None) ≡ Some row → Begins row.0 t
     by true k f = record { slots = row.1; is = e; is_a_word = k; spelt = found_row RowOf forms t.text row rows_are f }
     by false k f = absurd cc
 
-begins : (types : List (List ℕ)) (t : Token) (ts : List Token) (which : Form) → form_at types (t ∷ ts) ≡ Some which → Begins which t
+pub begins : (types : List (List ℕ)) (t : Token) (ts : List Token) (which : Form) → form_at types (t ∷ ts) ≡ Some which → Begins which t
 begins types t ts which e = by (form_row t) refl e
   where
     chosen : (row : Form × List Part) → form_row t ≡ Some row → (c : Bool) → (if c then Some row.0 else None) ≡ Some which → Begins which t

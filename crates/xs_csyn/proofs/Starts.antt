@@ -9,7 +9,7 @@ use Rattle.xs_ctok.specs.declared.token.TokKind.{TokKind}
 use Rattle.xs_ctok.specs.declared.token.TokKind.TheVariants as kind
 use Rattle.xs_ctok.specs.declared.token.Token.{Token}
 use Rattle.xs_csyn.proofs.Marks.{is_sign_of, is_word_of, mark_no_type, mark_no_word, marks, name_kind, name_no_mark, name_no_word, no_mark, no_sign_row, no_word, variable_name, variable_no_type, word_no_mark, word_no_type, words}
-use Rattle.xs_csyn.proofs.Tables.{EachRow, found_row}
+use Rattle.xs_cinput.proofs.Tables.{EachRow, sign_found}
 use Rattle.xs_csyn.specs.FileGrammar.{AreNames}
 use Rattle.xs_csyn.specs.Grammar as g
 use Rattle.xs_csyn.specs.Grammar.{Binary, Choice, Is, IsVariable, IsWord, Listed, NamedPlace, Operand, Place, Primary, Unary, Whole}
@@ -66,15 +66,6 @@ operand_end t us e = record {
   no_index = not_spelt (codes "[") t e.2;
   no_step = no_row steps t e.3;
 }
-
--- the row of a punctuator in a table
-pub sign_found : {V : Type 0} (P : List ℕ → V → Type 0) (table : List (List ℕ × V)) (t : Token) (v : V) → EachRow P table → sign_in table t ≡ Some v
-    → P t.text v × (t.kind ≡ kind.Punct)
-sign_found {V} P table t v each e = by t.kind refl e
-  where
-    by : (k : TokKind) → t.kind ≡ k → ◌≡◌ {A = Option V} (if is_punct_kind k then listed table t.text else None) (Some v) → P t.text v × (t.kind ≡ kind.Punct)
-    by kind.Punct k e = (found_row P table t.text v each e, k)
-    by k is e = absurd cc
 
 operators_end : EachRow {V = BinaryOp × ℕ} (λ word v. OperandEnd word) binary_ops
 unfolding binary_ops steps

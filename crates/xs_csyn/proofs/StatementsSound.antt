@@ -7,7 +7,7 @@ use Rattle.xs_csyn.proofs.ExpressionsSound.{expr_yields, stars_yields, type_name
 use Rattle.xs_csyn.proofs.FormsSound.{int_kind, perl_form_yields}
 use Rattle.xs_csyn.proofs.Marks.{is_word_from}
 use Rattle.xs_csyn.proofs.Sizes.{body_shrinks, labels_shrink}
-use Rattle.xs_csyn.proofs.Tables.{EachRow, found_row}
+use Rattle.xs_cinput.proofs.Tables.{EachRow, found_row}
 use Rattle.xs_csyn.proofs.Yields.{Adds, Yields, adds_all, adds_last, adds_more, adds_none, at, by_choice, by_eat, by_expect, by_if, by_option, by_variable, by_variable_here, by_word, by_word_here, done, fails, step, weaken}
 use Rattle.xs_csyn.specs.Grammar.{Is, IsWord, Stars, Whole}
 use Rattle.xs_cexpr.specs.ExpressionHeights.{height}
@@ -123,7 +123,7 @@ module _ (b : Input) where
   unfolding an_expr
   an_expr_yields ts = step _ _ (expr_yields b max_nesting level.Whole ts) (λ f us x. done _ us (x.stands, omega (arith, x.tall, x.within)))
 
-  until_yields : (sign : List ℕ) (ts : List Token) → Yields b (until sign (at b ts)) (Bounded b.types sign ts)
+  pub until_yields : (sign : List ℕ) (ts : List Token) → Yields b (until sign (at b ts)) (Bounded b.types sign ts)
   unfolding until
   until_yields sign ts =
       by_eat (λ _. Unit {0}) (Bounded b.types sign) sign ts _ _ tt
@@ -156,7 +156,7 @@ module _ (b : Input) where
       (λ found ws m. adds_more {R = Names b.types} sofar one m (λ added s. (g.more_names x'.0 comma s.0, omega (arith, x'.1, s.1)))))
       (λ x' isnt. done _ us (adds_last sofar one (g.last_name x'.0, omega (arith, x'.1)))))
 
-  declarators_yield : (ts : List Token) → Yields b (declarators (at b ts)) (λ all us. Names b.types all ts us)
+  pub declarators_yield : (ts : List Token) → Yields b (declarators (at b ts)) (λ all us. Names b.types all ts us)
   unfolding declarators
   declarators_yield ts = weaken (names_yield b.turns [] ts) (λ found us m. adds_all m)
 
@@ -171,7 +171,7 @@ module _ (b : Input) where
 
   -- ---- heads and labels
 
-  condition_yields : (ts : List Token) → Yields b (condition (at b ts)) (ACondition b.types ts)
+  pub condition_yields : (ts : List Token) → Yields b (condition (at b ts)) (ACondition b.types ts)
   unfolding condition
   condition_yields ts =
       by_expect (λ _. Unit {0}) (ACondition b.types) (codes "(") ts _ tt
@@ -179,13 +179,13 @@ module _ (b : Input) where
       (λ a vs x. by_expect (AnExpr b.types us a) (λ _. ACondition b.types (u ∷ us)) (codes ")") vs _ x
       (λ w ws x' close. done _ ws (g.condition opening x'.0 close, x'.1))))
 
-  first_part_yields : (ts : List Token) → Yields b (first_part (at b ts)) (AFirst b.types ts)
+  pub first_part_yields : (ts : List Token) → Yields b (first_part (at b ts)) (AFirst b.types ts)
   unfolding first_part
   first_part_yields ts =
       by_if (sees_type (at b ts)) _ _ (λ is. step _ _ (declaration_yields ts) (λ d us x. done _ us (g.first_declared x.0, x.1)))
       (λ isnt. step _ _ (until_yields (codes ";") ts) (λ v us x. done _ us (first_stands x.0, rw (first_height v) (x.1))))
 
-  for_head_yields : (ts : List Token) → Yields b (for_head (at b ts)) (AHeadOf b.types ts)
+  pub for_head_yields : (ts : List Token) → Yields b (for_head (at b ts)) (AHeadOf b.types ts)
   unfolding for_head
   for_head_yields ts =
       by_expect (λ _. Unit {0}) (AHeadOf b.types) (codes "(") ts _ tt
@@ -227,7 +227,7 @@ module _ (b : Input) where
       (λ is. weaken (labels_yield n (sofar ++ one ∷ []) us) (λ found vs m. adds_more {R = Labels b.types} sofar one m (λ added s. g.more_labels x s)))
       (λ isnt. done _ us (adds_last sofar one (g.last_label x))))
 
-  all_labels_yield : (ts : List Token) → Yields b (labels (at b ts)) (λ all us. Labels b.types all ts us)
+  pub all_labels_yield : (ts : List Token) → Yields b (labels (at b ts)) (λ all us. Labels b.types all ts us)
   unfolding labels
   all_labels_yield ts = weaken (labels_yield b.turns [] ts) (λ found us m. adds_all m)
 
@@ -356,7 +356,7 @@ module _ (b : Input) (inner : Reader StmtTree) (room : ℕ) (H : (ts : List Toke
       (λ isnt. step _ _ (H ts) (λ one us x. weaken (body_yields n (sofar ++ one ∷ []) us)
       (λ found vs m. adds_more {R = SomeStmts b.types room} sofar one m (λ added s. (g.stmt x.0 s.0, omega (arith, x.1, s.1), omega (arith, x.2, s.2))))))
 
-  group_body_yields : (ts : List Token) → Yields b (group_body inner (at b ts)) (λ all us. SomeStmts b.types room all ts us)
+  pub group_body_yields : (ts : List Token) → Yields b (group_body inner (at b ts)) (λ all us. SomeStmts b.types room all ts us)
   unfolding group_body
   group_body_yields ts = weaken (body_yields b.turns [] ts) (λ found us m. adds_all m)
 

@@ -1,5 +1,7 @@
 -- The statements of the laws of this crate.
-use Rattle.std.specs.Prelude.{◌≡◌, ◌<◌, ◌≤◌, ◌-◌, ℕ, suc, Bool, false, List, [], length, Ok}
+use Rattle.std.specs.Prelude.{◌≡◌, ◌⊎◌, ◌<◌, ◌≤◌, ◌-◌, ℕ, suc, Bool, false, List, [], length, Result, Ok, Err}
+use Rattle.xs_base.specs.declared.fault.Fault.{Fault}
+use Rattle.xs_base.specs.declared.fault_codes.TheConstants.{NESTED_TOO_DEEP, NO_READING_HERE}
 use Rattle.xs_base.specs.declared.source.FileOf.{FileOf}
 use Rattle.xs_ctok.specs.declared.token.Token.{Token}
 use Rattle.xs_cexpr.specs.ExpressionReader.{FoundAll, expr, list_from}
@@ -63,6 +65,39 @@ ArgumentsCompleteLaw = (file : FileOf) (last : ℕ) (types : List (List ℕ)) (a
     (ts : List Token) (all : List ExprTree) → AreNames types
     → AllArguments types all (kept false ts) → heights (exprs_of all) ≤ max_nesting - around
     → args_of file last types around ts ≡ Ok all
+
+-- ---- what is in the grammar, however deep, is read or refused as nested too deep
+
+-- The answer is a fault of nesting.
+pub record TooDeep {A : Type 0} (answer : Result A Fault) : Type 0 where
+  pub refusal : Fault
+  pub is : answer ≡ Err refusal
+  pub code : refusal.code ≡ NESTED_TOO_DEEP
+
+abbrev pub FileDeepLaw : Type 0
+FileDeepLaw = (file : FileOf) (last : ℕ) (ts : List Token) (f : FileTree) → IsFile f ts
+    → (file_of file last ts ≡ Ok f) ⊎ TooDeep (file_of file last ts)
+
+-- So tokens that have no reading somewhere are no file, however deep.
+abbrev pub FileUnreadLaw : Type 0
+FileUnreadLaw = (file : FileOf) (last : ℕ) (ts : List Token) (e : Fault)
+    → file_of file last ts ≡ Err e → e.code ≡ NO_READING_HERE → (f : FileTree) → IsFile f ts → ⊥
+
+abbrev pub BlockDeepLaw : Type 0
+BlockDeepLaw = (file : FileOf) (last : ℕ) (types : List (List ℕ)) (around : ℕ) (ts : List Token)
+    (all : List StmtTree) → AreNames types → Rest types (stmts_of all) (kept false ts)
+    → (block_of file last types around ts ≡ Ok all) ⊎ TooDeep (block_of file last types around ts)
+
+abbrev pub ExprDeepLaw : Type 0
+ExprDeepLaw = (file : FileOf) (last : ℕ) (types : List (List ℕ)) (around : ℕ) (ts : List Token)
+    (a : ExprTree) → AreNames types → Whole types a (kept false ts) []
+    → (expr_of file last types around ts ≡ Ok a) ⊎ TooDeep (expr_of file last types around ts)
+
+abbrev pub ArgumentsDeepLaw : Type 0
+ArgumentsDeepLaw = (file : FileOf) (last : ℕ) (types : List (List ℕ)) (around : ℕ)
+    (ts : List Token) (all : List ExprTree) → AreNames types
+    → AllArguments types all (kept false ts)
+    → (args_of file last types around ts ≡ Ok all) ⊎ TooDeep (args_of file last types around ts)
 
 -- ---- there is no other reading
 

@@ -6,4 +6,6 @@ pub mod StatementGrammar
 pub mod FileGrammar
 pub mod FileHeights
 pub mod Laws
+pub mod TokenTexts
+pub mod FaultPlaces
 pub mod Prefixes

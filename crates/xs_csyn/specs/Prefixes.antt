@@ -1,16 +1,9 @@
--- Where a fault of the grammar stands: at the first token after which no file goes on. No law of
--- this crate claims it yet.
-use Rattle.std.specs.Prelude.{◌≡◌, ◌⊎◌, ◌+◌, ◌≤◌, ℕ, true, false, if◌then◌else◌, max, List, [], ◌∷◌, ◌++◌, Option, Some, None, Err, map}
+-- The heights of trees where one name counts as nothing, since it stands for an operand that has
+-- not begun.
+use Rattle.std.specs.Prelude.{◌≡◌, ◌+◌, ◌≤◌, ℕ, false, if◌then◌else◌, max, List, [], ◌∷◌, Option, Some, None, map}
 use Rattle.std.specs.Str.{bytes_eq}
 use Rattle.xs_base.specs.Names.{is_among}
-use Rattle.xs_base.specs.Reading.{fault_in}
-use Rattle.xs_base.specs.declared.fault.Fault.{Fault}
-use Rattle.xs_base.specs.declared.fault_codes.TheConstants.{NESTED_TOO_DEEP, NO_READING_HERE}
-use Rattle.xs_base.specs.declared.source.FileOf.{FileOf}
 use Rattle.xs_ctok.specs.declared.token.Token.{Token}
-use Rattle.xs_csyn.specs.FileGrammar.{File}
-use Rattle.xs_csyn.specs.FileReader.{file_of}
-use Rattle.xs_csyn.specs.Grammar.{MayName}
 use Rattle.xs_cstmt.specs.StatementHeights.{depths}
 use Rattle.xs_cstmt.specs.StatementReader.{max_nesting}
 use Rattle.xs_cexpr.specs.ExpressionTree as tree_expr
@@ -19,9 +12,8 @@ use Rattle.xs_csyn.specs.FileTree as tree_file
 use Rattle.xs_cexpr.specs.ExpressionTree.{ExprTree, ExprTrees, PlaceTree}
 use Rattle.xs_cstmt.specs.StatementTree.{DeclaratorTree, FirstTree, StmtTree, StmtTrees, GroupTrees}
 use Rattle.xs_csyn.specs.FileTree.{ItemTree}
-use Rattle.xs_cinput.specs.TokenInput.{kept, line_at}
 
--- ---- heights where one name counts as nothing: it stands for an operand that has not begun
+-- ---- heights
 
 abbrev mutual
   pub height_but : List ℕ → ExprTree → ℕ
@@ -117,53 +109,8 @@ abbrev pub FitItemsBut : List ℕ → List ItemTree → Type 0
 FitItemsBut hole [] = Unit {0}
 FitItemsBut hole (one ∷ all) = FitsBut hole one × FitItemsBut hole all
 
--- ---- what begins a file
+-- ---- the name
 
--- the tokens begin a file
-abbrev pub Continues : List Token → Type 0
-Continues before =
-    (more : List Token) × (all : List ItemTree) × File [] all (before ++ more)
-
--- They begin one that is not too deep, where the name counts as nothing.
-abbrev pub ContinuesBut : List ℕ → List Token → Type 0
-ContinuesBut hole before =
-    (more : List Token) × (all : List ItemTree) × File [] all (before ++ more)
-    × FitItemsBut hole all
-
--- The next token has a reading, or the end.
-abbrev pub GoesOn : List Token → List Token → Type 0
-GoesOn before [] = (all : List ItemTree) × File [] all before
-GoesOn before (t ∷ ts) = Continues (before ++ t ∷ [])
-
-abbrev pub GoesOnBut : List ℕ → List Token → List Token → Type 0
-GoesOnBut hole before [] = (all : List ItemTree) × File [] all before × FitItemsBut hole all
-GoesOnBut hole before (t ∷ ts) = ContinuesBut hole (before ++ t ∷ [])
-
--- a name that stands nowhere in these tokens
+-- The name stands nowhere in these tokens.
 abbrev pub IsFresh : Token → List Token → Type 0
-IsFresh x ts = MayName x × (is_among (map (λ (t : Token). t.text) ts) x.text ≡ false)
-
--- At this place an operand may begin only where it is too deep: it is read only where its name
--- counts as nothing.
-abbrev pub IsDeep : Token → List Token → Type 0
-IsDeep x before = ContinuesBut x.text (before ++ x ∷ []) × (ContinuesBut [] (before ++ x ∷ []) → ⊥)
-
--- ---- faults
-
--- no reading here: the next token has none, and no operand that is too deep could begin
-abbrev pub IsUnread : Token → List Token → List Token → Type 0
-IsUnread x before rest =
-    ContinuesBut x.text before × (GoesOn before rest → ⊥) × (IsDeep x before → ⊥)
-
--- nested too deep: whatever the next token, or with the next token
-abbrev pub IsTooDeep : Token → List Token → List Token → Type 0
-IsTooDeep x before rest = ContinuesBut x.text before
-    × (IsDeep x before ⊎ (GoesOn before rest × (GoesOnBut x.text before rest → ⊥)))
-
--- A file that is not read has a fault at the first token after which no file goes on that is read.
-abbrev pub FaultPlaceLaw : Type 0
-FaultPlaceLaw = (file : FileOf) (last : ℕ) (ts : List Token) (f : Fault) (x : Token)
-    → IsFresh x (kept true ts) → file_of file last ts ≡ Err f
-    → (before : List Token) × (rest : List Token) × (kept true ts ≡ before ++ rest)
-    × (((f ≡ fault_in file (line_at last rest) NO_READING_HERE []) × IsUnread x before rest)
-    ⊎ ((f ≡ fault_in file (line_at last rest) NESTED_TOO_DEEP []) × IsTooDeep x before rest))
+IsFresh x ts = is_among (map (λ (t : Token). t.text) ts) x.text ≡ false

@@ -1,5 +1,7 @@
 //! Laws of the grammar, for all tokens.
-ghost use Rattle.xs_csyn.specs.Laws.{ArgumentsCompleteLaw, ArgumentsSoundLaw, BlockCompleteLaw, BlockSoundLaw, BlockUniqueLaw, ExprCompleteLaw, ExprSoundLaw, ExprUniqueLaw, FileCompleteLaw, FileSoundLaw, FileUniqueLaw, TurnsLaw};
+ghost use Rattle.xs_csyn.specs.Laws.{ArgumentsCompleteLaw, ArgumentsDeepLaw, ArgumentsSoundLaw, BlockCompleteLaw, BlockDeepLaw, BlockSoundLaw, BlockUniqueLaw, ExprCompleteLaw, ExprDeepLaw, ExprSoundLaw, ExprUniqueLaw, FileCompleteLaw, FileDeepLaw, FileSoundLaw, FileUniqueLaw, FileUnreadLaw, TurnsLaw};
+ghost use Rattle.xs_csyn.specs.FaultPlaces.{BlockFaultLaw, ExprFaultLaw, FileFaultLaw, FillerLaw};
+ghost use Rattle.xs_csyn.specs.TokenTexts.{TokensSpeltLaw};
 
 /// What is read is in the grammar, and no deeper than it may be.
 pub fn sound_law()
@@ -17,6 +19,15 @@ pub fn complete_law()
     ensures arguments { ArgumentsCompleteLaw }
 {}
 
+/// What is in the grammar, however deep, is read, or refused as nested too deep.
+pub fn deep_law()
+    ensures files { FileDeepLaw }
+    ensures unread { FileUnreadLaw }
+    ensures blocks { BlockDeepLaw }
+    ensures exprs { ExprDeepLaw }
+    ensures arguments { ArgumentsDeepLaw }
+{}
+
 /// No tokens have two readings.
 pub fn unique_law()
     ensures files { FileUniqueLaw }
@@ -29,4 +40,37 @@ pub fn unique_law()
 #[tactic(auto, using(crate::proofs::MoreTurns::turns_law))]
 pub fn turns_law()
     ensures { TurnsLaw }
+{}
+
+/// Where tokens are not read as an expression, the fault is at one token: the tokens before it
+/// begin an expression, and nothing that is read begins with them and with it.
+#[tactic(auto, using(crate::proofs::ExpressionPlaces::expr_fault_law))]
+pub fn expr_fault_law()
+    ensures { ExprFaultLaw }
+{}
+
+/// The same of tokens that are not read as what stands in a block.
+#[tactic(auto, using(crate::proofs::BlockPlaces::block_fault_law))]
+pub fn block_fault_law()
+    ensures { BlockFaultLaw }
+{}
+
+/// The same of a file that is not read: the grammar looks at no token after the next one, and finds
+/// a fault at the first token with which no file within the bounds goes on.
+#[tactic(auto, using(crate::proofs::FilePlaces::file_fault_law))]
+pub fn file_fault_law()
+    ensures { FileFaultLaw }
+{}
+
+/// The tokens of a text are spelt as tokens are: a word begins as a word does, and a punctuator
+/// does not. Where the laws on the place of a fault ask this of tokens, each text meets it.
+#[tactic(auto, using(crate::proofs::TokensSpelt::tokens_spelt_law))]
+pub fn tokens_are_spelt_law()
+    ensures { TokensSpeltLaw }
+{}
+
+/// There is a name to complete a text with that stands nowhere in it.
+#[tactic(auto, using(crate::proofs::Fillers::filler_law))]
+pub fn filler_law()
+    ensures { FillerLaw }
 {}
