@@ -9,9 +9,9 @@ use Rattle.xs_api.specs.declared.api.Operand.{Operand}
 use Rattle.xs_api.specs.declared.api.Registered.{Registered}
 use Rattle.xs_machine.specs.declared.machine.Outcome.{Outcome}
 use Rattle.xs_machine.specs.declared.machine.Outcome.TheVariants as outcome
-use Rattle.xs_ccheck.specs.Functions.{function_at}
+use Rattle.xs_ctree.specs.Functions.{function_at}
 use Rattle.xs_machine.specs.Machine.{Mach, called, is_over}
-use Rattle.xs_ccheck.specs.TypedTree.{Code}
+use Rattle.xs_ctree.specs.TypedTree.{Code}
 use Rattle.xs_api.specs.World.{Cells, World, live_of, registered}
 use Rattle.xs_api.specs.World as machine
 use Rattle.xs_values.proofs.Wrapping.{wrapped_value-held}

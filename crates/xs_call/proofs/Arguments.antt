@@ -21,7 +21,7 @@ use Rattle.xs_meaning.specs.declared.call_command.CallCommand.{CallCommand}
 use Rattle.xs_call.specs.declared.running.Reported.{Reported}
 use Rattle.xs_machine.specs.declared.machine.Outcome.{Outcome}
 use Rattle.xs_machine.specs.declared.machine.Outcome.TheVariants as outcome
-use Rattle.xs_ccheck.specs.TypedTree.{Code}
+use Rattle.xs_ctree.specs.TypedTree.{Code}
 use Rattle.xs_base.specs.declared.memory.Memory.{Memory}
 use Rattle.xs_values.specs.declared.plain.Plain.TheVariants.{Int}
 use Rattle.xs_values.specs.declared.trap.Trap.{Trap}

@@ -7,15 +7,17 @@ use Rattle.xs_api.specs.declared.api.Abrupt.{Abrupt}
 use Rattle.xs_api.specs.declared.api.Abrupt.TheVariants.{Traps, Croaks, Returns}
 use Rattle.xs_api.specs.declared.api.Frame.{Frame}
 use Rattle.xs_api.specs.declared.api.Operand.{Operand}
-use Rattle.xs_api.specs.declared.api.Operand.TheVariants.{Unset, Num, Scalar, Void}
+use Rattle.xs_api.specs.declared.api.Operand.TheVariants.{Unset, Num, Scalar}
 use Rattle.xs_api.specs.declared.api.Registered.{Registered}
 use Rattle.xs_api.specs.declared.heap.Cell.{Cell}
-use Rattle.xs_machine.specs.Cmean.{meaning, meaning_all}
+use Rattle.xs_machine.specs.Cmean.{eval, exec, exec_all}
 use Rattle.xs_api.specs.Rows.{usage_text}
 use Rattle.xs_machine.specs.Dispatch.{counted_rows}
 use Rattle.xs_machine.specs.MachineState.{State, Out, Stop, Done, calculate}
-use Rattle.xs_perlapi.specs.declared.row.Row.TheVariants.{SvNewMortal, SvSetIv, StSet, XsReturn}
-use Rattle.xs_ccheck.specs.TypedTree.{Tree, Variable, Convert, Declare}
+use Rattle.xs_perlapi.specs.declared.row.Row.TheVariants.{SvNewMortal, SvSetIv, XsReturn}
+use Rattle.xs_ctree.specs.TypedTree.{Stmt, Variable, Cast, Declare, stmts_of}
+use Rattle.xs_ctree.specs.declared.value_type.Slot.{Slot}
+use Rattle.xs_ctree.specs.declared.value_type.ValueType.TheVariants as type_of
 use Rattle.xs_api.specs.World.{Cells, World, cell_at, is_read_only, may_make}
 use Rattle.xs_values.specs.declared.kind.Kind.TheVariants.{I32, I64}
 use Rattle.xs_values.specs.declared.plain.Plain.TheVariants.{Undef, Int}
@@ -28,8 +30,8 @@ use Rattle.xs_iface.specs.declared.xsub.Xsub.{Xsub}
 use Rattle.std.specs.List.{AllByRecursion as All}
 use Rattle.xs_iface.specs.SumForm.{IsTermOf}
 use Rattle.xs_stub.specs.Stub.{joined_names}
-use Rattle.xs_call.specs.GlueCode.{declarations, input, inputs, retval, retval_scalar, sum_tree, end, work, xsub_body}
-use Rattle.xs_sim.specs.TreeBuilders.{trees_of, row_of, row_done, int_literal, assign_int, assign_scalar}
+use Rattle.xs_call.specs.GlueCode.{declarations, input, inputs, param_slots, retval, retval_scalar, slots_of, sum_tree, end, work, xsub_body}
+use Rattle.xs_sim.specs.TreeBuilders.{row_of, row_done, row_quits, int_literal, assign_int, assign_item, assign_scalar, slot_of}
 use Rattle.xs_meaning.specs.DeclaredMeaning.{sum_of}
 use Rattle.xs_sim.proofs.ListPositions.{get_at, get_next, set_at, set_next, find_at, one_longer}
 use Rattle.xs_sim.proofs.IntNumbers.{in_range}
@@ -61,14 +63,14 @@ module _ (x : Xsub) (vars : List Operand) (called args temps : List ℕ) (cells 
     ≡ length args) (held : length args ≤ 1000000) (few : length x.params ≤ 1000000) where
   -- another number of arguments
   pub usage_means : (length args == length x.params) ≡ false →
-      meaning counted_rows (xsub_body x) (state vars (frame called 0) (world cells args top (0 ∷ []) temps names) turns)
+      exec counted_rows (xsub_body x) (state vars (frame called 0) (world cells args top (0 ∷ []) temps names) turns)
       ≡ Stop (Croaks (usage_text called (joined_names x.params))) (state vars (frame called (top - 0)) (world cells args top [] temps names) turns)
   usage_means d = rw (counts (length args) (top - 0) (length x.params) (omega (arith, whole)) held few, differs (length args) (length x.params) d) refl
 
   -- the work, after the argument test
   pub work_means : (length args == length x.params) ≡ true → (way : Abrupt) (σ : State World)
-      → meaning_all counted_rows (trees_of (work x)) (state vars (frame called (top - 0)) (world cells args top [] temps names) turns) ≡ Stop way σ
-      → meaning counted_rows (xsub_body x) (state vars (frame called 0) (world cells args top (0 ∷ []) temps names) turns) ≡ Stop way σ
+      → exec_all counted_rows (stmts_of (work x)) (state vars (frame called (top - 0)) (world cells args top [] temps names) turns) ≡ Stop way σ
+      → exec counted_rows (xsub_body x) (state vars (frame called 0) (world cells args top (0 ∷ []) temps names) turns) ≡ Stop way σ
   work_means d way σ e = rw (counts (length args) (top - 0) (length x.params) (omega (arith, whole)) held few, agrees (length args) (length x.params) d, e) refl
 
 -- ---- declarations
@@ -78,11 +80,9 @@ abbrev unset_for : List Param → List Operand
 unset_for [] = Unset ∷ Unset ∷ []
 unset_for (p ∷ ps) = Unset ∷ unset_for ps
 
-all_unset : (ps : List Param) → replicate (length ps + 2) Unset ≡ unset_for ps
-all_unset [] = refl
-all_unset (p ∷ ps) =
-    let longer : suc (length ps) + 2 ≡ suc (length ps + 2) = omega arith in
-    ap (λ n. replicate n Unset) longer ∙ ap (λ vars. Unset ∷ vars) (all_unset ps)
+all_unset : (slot : ℕ) (ps : List Param) (one two : Slot) → replicate (length (param_slots slot ps ++ one ∷ two ∷ [])) Unset ≡ unset_for ps
+all_unset slot [] one two = refl
+all_unset slot (p ∷ ps) one two = ap (λ vars. Unset ∷ vars) (all_unset (slot + 1) ps one two)
 
 still_unset : (ps : List Param) (slot : ℕ) → slice_set (unset_for ps) slot Unset ≡ unset_for ps
 still_unset [] zero = refl
@@ -92,26 +92,26 @@ still_unset (p ∷ ps) zero = refl
 still_unset (p ∷ ps) (suc slot) = ap (λ vars. Unset ∷ vars) (still_unset ps slot)
 
 module _ (f : Frame) (w : World) (turns : ℕ) where
-  declared_one : (all : List Param) (slot : ℕ) (rest : List Tree) → meaning_all counted_rows (trees_of (Declare slot ∷ rest)) (state (unset_for all) f w turns)
-      ≡ meaning_all counted_rows (trees_of rest) (state (unset_for all) f w turns)
-  declared_one all slot rest = ap (λ vars. meaning_all counted_rows (trees_of rest) (state vars f w turns)) (still_unset all slot)
+  declared_one : (all : List Param) (slot : ℕ) (rest : List Stmt) → exec_all counted_rows (stmts_of (Declare 0 slot ∷ rest)) (state (unset_for all) f w turns)
+      ≡ exec_all counted_rows (stmts_of rest) (state (unset_for all) f w turns)
+  declared_one all slot rest = ap (λ vars. exec_all counted_rows (stmts_of rest) (state vars f w turns)) (still_unset all slot)
 
-  declared_all : (all ps : List Param) (slot : ℕ) (rest : List Tree)
-      → meaning_all counted_rows (trees_of (declarations slot ps ++ rest)) (state (unset_for all) f w turns)
-      ≡ meaning_all counted_rows (trees_of rest) (state (unset_for all) f w turns)
+  declared_all : (all ps : List Param) (slot : ℕ) (rest : List Stmt)
+      → exec_all counted_rows (stmts_of (declarations slot ps ++ rest)) (state (unset_for all) f w turns)
+      ≡ exec_all counted_rows (stmts_of rest) (state (unset_for all) f w turns)
   declared_all all [] slot rest = refl
   declared_all all (p ∷ ps) slot rest = declared_one all slot (declarations (slot + 1) ps ++ rest) ∙ declared_all all ps (slot + 1) rest
 
   -- the declarations of a glue function
-  head_done : (x : Xsub) → meaning_all counted_rows (trees_of (work x)) (state (unset_for x.params) f w turns)
-      ≡ meaning_all counted_rows (trees_of (inputs 0 x.params ++ (assign_int (retval x) (sum_tree x.sum) ∷ end x))) (state (unset_for x.params) f w turns)
+  head_done : (x : Xsub) → exec_all counted_rows (stmts_of (work x)) (state (unset_for x.params) f w turns)
+      ≡ exec_all counted_rows (stmts_of (inputs 0 x.params ++ (assign_int (retval x) (sum_tree x.sum) ∷ end x))) (state (unset_for x.params) f w turns)
   head_done x =
-      let after : List Tree = inputs 0 x.params ++ (assign_int (retval x) (sum_tree x.sum) ∷ end x) in
-      ap (λ ts. meaning_all counted_rows (trees_of ts) (state (unset_for x.params) f w turns))
-      (append_assoc (declarations 0 x.params) (Declare (retval x) ∷ Declare (retval_scalar x) ∷ inputs 0 x.params)
+      let after : List Stmt = inputs 0 x.params ++ (assign_int (retval x) (sum_tree x.sum) ∷ end x) in
+      ap (λ ts. exec_all counted_rows (stmts_of ts) (state (unset_for x.params) f w turns))
+      (append_assoc (declarations 0 x.params) (Declare 0 (retval x) ∷ Declare 0 (retval_scalar x) ∷ inputs 0 x.params)
       (assign_int (retval x) (sum_tree x.sum) ∷ end x))
-      ∙ declared_all x.params x.params 0 (Declare (retval x) ∷ Declare (retval_scalar x) ∷ after)
-      ∙ declared_one x.params (retval x) (Declare (retval_scalar x) ∷ after)
+      ∙ declared_all x.params x.params 0 (Declare 0 (retval x) ∷ Declare 0 (retval_scalar x) ∷ after)
+      ∙ declared_one x.params (retval x) (Declare 0 (retval_scalar x) ∷ after)
       ∙ declared_one x.params (retval_scalar x) after
 
 -- ---- inputs
@@ -133,10 +133,10 @@ module _ (cells : Cells) (args : List ℕ) (called : List ℕ) (items top : ℕ)
   abbrev over : List Operand → State World
   over vars = state vars (frame called items) (world cells args top marks temps names) turns
 
-  inputs_done : (ps : List Param) (ns : List ℕ) (zs : List ℤ) (front : List ℕ) (done : List Operand) (place : ℕ) (rest : List Tree)
+  inputs_done : (ps : List Param) (ns : List ℕ) (zs : List ℤ) (front : List ℕ) (done : List Operand) (place : ℕ) (rest : List Stmt)
       → HoldAll cells ps ns zs → args ≡ front ++ ns → length front ≡ place → length done ≡ place
-      → meaning_all counted_rows (trees_of (inputs place ps ++ rest)) (over (done ++ unset_for ps))
-      ≡ meaning_all counted_rows (trees_of rest) (over (done ++ (map Num (inputs_from zs) ++ Unset ∷ Unset ∷ [])))
+      → exec_all counted_rows (stmts_of (inputs place ps ++ rest)) (over (done ++ unset_for ps))
+      ≡ exec_all counted_rows (stmts_of rest) (over (done ++ (map Num (inputs_from zs) ++ Unset ∷ Unset ∷ [])))
   inputs_done [] [] [] front done place rest h a e g = refl
   inputs_done [] [] (z ∷ zs) front done place rest h a e g = absurd h
   inputs_done [] (n ∷ ns) zs front done place rest h a e g = absurd h
@@ -146,14 +146,14 @@ module _ (cells : Cells) (args : List ℕ) (called : List ℕ) (items top : ℕ)
       let number : Operand = Num (wrapped I32 z) in
       let base : 0 + place ≡ place = omega arith in
       let found : slice_get args (0 + place) ≡ Some n = ap (slice_get args) base ∙ ap (λ l. slice_get l place) a ∙ find_at front ns n place e in
-      let later : List Tree = inputs (place + 1) ps ++ rest in
-      then_on (input place) (trees_of later) (over (done ++ Unset ∷ unset_for ps)) (over (slice_set (done ++ Unset ∷ unset_for ps) place number)) Void
+      let later : List Stmt = inputs (place + 1) ps ++ rest in
+      then_on (input place) (stmts_of later) (over (done ++ Unset ∷ unset_for ps)) (over (slice_set (done ++ Unset ∷ unset_for ps) place number))
       (input_done place n 1 z (done ++ Unset ∷ unset_for ps) (frame called items) (world cells args top marks temps names) turns found h.0)
-      ∙ ap (λ vars. meaning_all counted_rows (trees_of later) (over vars)) (set_at done (unset_for ps) Unset number place g
+      ∙ ap (λ vars. exec_all counted_rows (stmts_of later) (over vars)) (set_at done (unset_for ps) Unset number place g
       ∙ sym (append_assoc done (number ∷ []) (unset_for ps)))
       ∙ inputs_done ps ns zs (front ++ n ∷ []) (done ++ number ∷ []) (place + 1) rest h.1 (a ∙ sym (append_assoc front (n ∷ []) ns))
       (one_longer front n place e) (one_longer done number place g)
-      ∙ ap (λ vars. meaning_all counted_rows (trees_of rest) (over vars)) (append_assoc done (number ∷ []) (map Num (inputs_from zs) ++ Unset ∷ Unset ∷ []))
+      ∙ ap (λ vars. exec_all counted_rows (stmts_of rest) (over vars)) (append_assoc done (number ∷ []) (map Num (inputs_from zs) ++ Unset ∷ Unset ∷ []))
 
 -- ---- as many arguments as parameters
 
@@ -176,25 +176,25 @@ module _ (x : Xsub) (zs : List ℤ) (called args temps : List ℕ) (cells : Cell
   as_many : length numbers ≡ length x.params
   as_many = length_numbers x.params args zs cells h
 
-  abbrev begun : Out World Operand
-  begun = meaning_all counted_rows (trees_of (work x)) (entered (replicate (length x.params + 2) Unset))
+  abbrev begun : Out World (Unit {0})
+  begun = exec_all counted_rows (stmts_of (work x)) (entered (replicate (length (slots_of x)) Unset))
 
-  abbrev summing : Out World Operand
-  summing = meaning_all counted_rows (trees_of (assign_int (retval x) (sum_tree x.sum) ∷ end x)) (entered (numbers ++ Unset ∷ Unset ∷ []))
+  abbrev summing : Out World (Unit {0})
+  summing = exec_all counted_rows (stmts_of (assign_int (retval x) (sum_tree x.sum) ∷ end x)) (entered (numbers ++ Unset ∷ Unset ∷ []))
 
   -- what comes in front of the sum
   to_sum : begun ≡ summing
   to_sum =
-      ap (λ vars. meaning_all counted_rows (trees_of (work x)) (entered vars)) (all_unset x.params)
+      ap (λ vars. exec_all counted_rows (stmts_of (work x)) (entered vars)) (all_unset 0 x.params _ _)
       ∙ head_done (frame called items) (world cells args top [] temps names) turns x
       ∙ inputs_done cells args called items top [] temps names turns x.params args zs [] [] 0 (assign_int (retval x) (sum_tree x.sum) ∷ end x) h refl refl refl
 
   pub trapped_means : (trap : Trap) → sum_of (inputs_from zs) x.sum ≡ Err trap → begun ≡ Stop (Traps trap) (entered (numbers ++ Unset ∷ Unset ∷ []))
   trapped_means trap e =
-      let sum : meaning counted_rows (sum_tree x.sum) (entered (numbers ++ Unset ∷ Unset ∷ [])) ≡ Stop (Traps trap) (entered (numbers ++ Unset ∷ Unset ∷ [])) =
+      let sum : eval counted_rows (sum_tree x.sum) (entered (numbers ++ Unset ∷ Unset ∷ [])) ≡ Stop (Traps trap) (entered (numbers ++ Unset ∷ Unset ∷ [])) =
       sum_means (inputs_from zs) (Unset ∷ Unset ∷ []) (frame called items) (world cells args top [] temps names) turns x.sum terms
       ∙ ap (λ r. calculate r (entered (numbers ++ Unset ∷ Unset ∷ []))) e in
-      to_sum ∙ then_out (assign_int (retval x) (sum_tree x.sum)) (trees_of (end x)) (entered (numbers ++ Unset ∷ Unset ∷ []))
+      to_sum ∙ then_out (assign_int (retval x) (sum_tree x.sum)) (stmts_of (end x)) (entered (numbers ++ Unset ∷ Unset ∷ []))
       (entered (numbers ++ Unset ∷ Unset ∷ [])) (Traps trap)
       (int_trapped (retval x) (sum_tree x.sum) trap (numbers ++ Unset ∷ Unset ∷ []) (frame called items) (world cells args top [] temps names) turns sum)
 
@@ -202,16 +202,16 @@ module _ (x : Xsub) (zs : List ℤ) (called args temps : List ℕ) (cells : Cell
     abbrev result : Operand
     result = Num (wrapped I32 n.value)
 
-    sum_done : begun ≡ meaning_all counted_rows (trees_of (end x)) (entered (numbers ++ result ∷ Unset ∷ []))
+    sum_done : begun ≡ exec_all counted_rows (stmts_of (end x)) (entered (numbers ++ result ∷ Unset ∷ []))
     sum_done =
-        let sum : meaning counted_rows (sum_tree x.sum) (entered (numbers ++ Unset ∷ Unset ∷ [])) ≡ Done (Num n) (entered (numbers ++ Unset ∷ Unset ∷ [])) =
+        let sum : eval counted_rows (sum_tree x.sum) (entered (numbers ++ Unset ∷ Unset ∷ [])) ≡ Done (Num n) (entered (numbers ++ Unset ∷ Unset ∷ [])) =
         sum_means (inputs_from zs) (Unset ∷ Unset ∷ []) (frame called items) (world cells args top [] temps names) turns x.sum terms
         ∙ ap (λ r. calculate r (entered (numbers ++ Unset ∷ Unset ∷ []))) summed in
         to_sum
-        ∙ then_on (assign_int (retval x) (sum_tree x.sum)) (trees_of (end x)) (entered (numbers ++ Unset ∷ Unset ∷ []))
-        (entered (slice_set (numbers ++ Unset ∷ Unset ∷ []) (retval x) result)) Void
+        ∙ then_on (assign_int (retval x) (sum_tree x.sum)) (stmts_of (end x)) (entered (numbers ++ Unset ∷ Unset ∷ []))
+        (entered (slice_set (numbers ++ Unset ∷ Unset ∷ []) (retval x) result))
         (int_done (retval x) (sum_tree x.sum) n (numbers ++ Unset ∷ Unset ∷ []) (frame called items) (world cells args top [] temps names) turns sum)
-        ∙ ap (λ vars. meaning_all counted_rows (trees_of (end x)) (entered vars)) (set_at numbers (Unset ∷ []) Unset result (length x.params) as_many)
+        ∙ ap (λ vars. exec_all counted_rows (stmts_of (end x)) (entered vars)) (set_at numbers (Unset ∷ []) Unset result (length x.params) as_many)
 
     pub large_means : may_make cells ≡ false → begun ≡ Stop (Traps Large) (entered (numbers ++ result ∷ Unset ∷ []))
     large_means full = sum_done
@@ -243,36 +243,36 @@ module _ (x : Xsub) (zs : List ℤ) (called args temps : List ℕ) (cells : Cell
     number_read = get_at numbers (Scalar (Some (length cells)) ∷ []) result Unset (length x.params) as_many
 
     -- the result scalar becomes the item, and is returned
-    abbrev item_trees : List Tree
-    item_trees = row_done StSet (Variable (retval_scalar x) ∷ int_literal 0 ∷ []) ∷ row_done XsReturn (int_literal 1 ∷ []) ∷ []
+    abbrev item_trees : List Stmt
+    item_trees = assign_item (int_literal 0) (Variable (retval_scalar x)) ∷ row_quits XsReturn (int_literal 1 ∷ []) ∷ []
 
-    abbrev setiv : Tree
-    setiv = row_done SvSetIv (Variable (retval_scalar x) ∷ Convert I64 (Variable (retval x)) ∷ [])
+    abbrev setiv : Stmt
+    setiv = row_done SvSetIv (Variable (retval_scalar x) ∷ Cast (type_of.Number I64) (Variable (retval x)) ∷ [])
 
-    scalar_made : may_make cells ≡ true → begun ≡ meaning_all counted_rows (trees_of (setiv ∷ item_trees)) (after (Some fresh))
+    scalar_made : may_make cells ≡ true → begun ≡ exec_all counted_rows (stmts_of (setiv ∷ item_trees)) (after (Some fresh))
     scalar_made room =
         let made = mortal_done (retval_scalar x) (numbers ++ result ∷ Unset ∷ []) (frame called items) (world cells args top [] temps names) turns room in
         sum_done
-        ∙ then_on (assign_scalar (retval_scalar x) (row_of SvNewMortal [])) (trees_of (setiv ∷ item_trees))
-        (entered (numbers ++ result ∷ Unset ∷ [])) _ Void made
-        ∙ ap (λ vars. meaning_all counted_rows (trees_of (setiv ∷ item_trees))
+        ∙ then_on (assign_scalar (retval_scalar x) (row_of SvNewMortal [])) (stmts_of (setiv ∷ item_trees))
+        (entered (numbers ++ result ∷ Unset ∷ [])) _ made
+        ∙ ap (λ vars. exec_all counted_rows (stmts_of (setiv ∷ item_trees))
         (state vars (frame called items) (world (cells ++ Some fresh ∷ []) args top [] (length cells ∷ temps) names) turns))
         (set_next numbers [] result Unset (Scalar (Some (length cells))) (length x.params) as_many)
 
-    scalar_set : may_make cells ≡ true → is_read_only (length cells) ≡ false → begun ≡ meaning_all counted_rows (trees_of item_trees) (after (holds stored))
+    scalar_set : may_make cells ≡ true → is_read_only (length cells) ≡ false → begun ≡ exec_all counted_rows (stmts_of item_trees) (after (holds stored))
     scalar_set room writable =
         let found : cell_at (length cells) (cells ++ Some fresh ∷ []) ≡ Some fresh = get_at cells [] (Some fresh) None (length cells) refl in
         let sets = setiv_done (retval_scalar x) (retval x) with_result (wrapped I32 n.value) (length cells) fresh (frame called items)
         (world (cells ++ Some fresh ∷ []) args top [] (length cells ∷ temps) names) turns scalar_read number_read found writable in
         scalar_made room
-        ∙ then_on setiv (trees_of item_trees) (after (Some fresh)) _ Void sets
-        ∙ ap (λ cs. meaning_all counted_rows (trees_of item_trees)
+        ∙ then_on setiv (stmts_of item_trees) (after (Some fresh)) _ sets
+        ∙ ap (λ cs. exec_all counted_rows (stmts_of item_trees)
         (state with_result (frame called items) (world cs args top [] (length cells ∷ temps) names) turns))
         (set_at cells [] (Some fresh) (holds stored) (length cells) refl)
 
     pub returned_means : may_make cells ≡ true → is_read_only (length cells) ≡ false → begun ≡ Stop (Returns (length cells ∷ [])) ended
     returned_means room writable =
-        let last : List Tree = row_done XsReturn (int_literal 1 ∷ []) ∷ [] in
+        let last : List Stmt = row_quits XsReturn (int_literal 1 ∷ []) ∷ [] in
         let returns : State World =
         state with_result (frame called items) (world (cells ++ holds stored ∷ []) (with_first (length cells) args) top [] (length cells ∷ temps) names)
         turns in
@@ -280,6 +280,6 @@ module _ (x : Xsub) (zs : List ℤ) (called args temps : List ℕ) (cells : Cell
         let item = item_done args (retval_scalar x) with_result (length cells) (record { value = Int stored; count = 1 }) called items
         (cells ++ holds stored ∷ []) top [] (length cells ∷ temps) names turns scalar_read found in
         scalar_set room writable
-        ∙ then_on (row_done StSet (Variable (retval_scalar x) ∷ int_literal 0 ∷ [])) (trees_of last) (after (holds stored)) returns Void item
-        ∙ then_out (row_done XsReturn (int_literal 1 ∷ [])) (trees_of []) returns ended (Returns (length cells ∷ []))
+        ∙ then_on (assign_item (int_literal 0) (Variable (retval_scalar x))) (stmts_of last) (after (holds stored)) returns item
+        ∙ then_out (row_quits XsReturn (int_literal 1 ∷ [])) (stmts_of []) returns ended (Returns (length cells ∷ []))
         (item_returned args with_result (length cells) called items (cells ++ holds stored ∷ []) top [] (length cells ∷ temps) names turns)

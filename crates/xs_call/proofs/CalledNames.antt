@@ -7,8 +7,8 @@ use Rattle.std.specs.Option.{option_or}
 use Rattle.std.specs.Prelude.{slice_get}
 use Rattle.std.specs.Str.{bytes_eq}
 use Rattle.xs_api.specs.declared.api.Registered.{Registered}
-use Rattle.xs_ccheck.specs.Functions.{boot_from}
-use Rattle.xs_ccheck.specs.TypedTree.{Function}
+use Rattle.xs_ctree.specs.Functions.{boot_from}
+use Rattle.xs_ctree.specs.TypedTree.{Function, is_boot}
 use Rattle.xs_api.specs.World.{registered}
 use Rattle.xs_iface.proofs.Noted.{same_both_ways}
 use Rattle.xs_iface.specs.declared.xsub.Xsub.{Xsub}
@@ -84,7 +84,7 @@ module _ (name : List ℕ) (all : List Function) (last : Function) (P : Option �
 -- ---- the boot function
 
 -- it stands after all others
-pub boot_index : (last : Function) (n : ℕ) (xs : List Xsub) → last.is_boot ≡ true → boot_from n (functions_on last xs) ≡ Some (n + length xs)
+pub boot_index : (last : Function) (n : ℕ) (xs : List Xsub) → is_boot last.sort ≡ true → boot_from n (functions_on last xs) ≡ Some (n + length xs)
 boot_index last n [] e = let at : n ≡ n + 0 = omega arith in rw e (ap Some at)
 boot_index last n (x ∷ xs) e = let at : n + 1 + length xs ≡ n + suc (length xs) = omega arith in boot_index last (n + 1) xs e ∙ ap Some at
 

@@ -8,12 +8,12 @@ use Rattle.xs_api.specs.declared.api.Operand.TheVariants.{Unset, Num, Scalar}
 use Rattle.xs_api.specs.declared.api.Registered.{Registered}
 use Rattle.xs_machine.specs.declared.machine.Outcome.{Outcome}
 use Rattle.xs_machine.specs.declared.machine.Outcome.TheVariants as outcome
-use Rattle.xs_machine.specs.Cmean.{meaning}
-use Rattle.xs_ccheck.specs.Functions.{function_at}
+use Rattle.xs_machine.specs.Cmean.{exec}
+use Rattle.xs_ctree.specs.Functions.{function_at}
 use Rattle.xs_machine.specs.Machine.{Mach, called, call_over, is_over}
 use Rattle.xs_api.specs.Rows.{usage_text}
 use Rattle.xs_machine.specs.MachineState.{State}
-use Rattle.xs_ccheck.specs.TypedTree.{Code}
+use Rattle.xs_ctree.specs.TypedTree.{Code}
 use Rattle.xs_api.specs.World.{Cells, World, depths_of, is_read_only, may_make, registered}
 use Rattle.xs_values.specs.declared.kind.Kind.TheVariants.{I32, I64}
 use Rattle.xs_values.specs.declared.trap.Trap.{Trap}
@@ -23,7 +23,7 @@ use Rattle.xs_iface.specs.declared.xsub.Xsub.{Xsub}
 use Rattle.std.specs.List.{AllByRecursion as All}
 use Rattle.xs_iface.specs.SumForm.{IsTermOf}
 use Rattle.xs_stub.specs.Stub.{joined_names}
-use Rattle.xs_call.specs.GlueCode.{xsub_body, xsub_function}
+use Rattle.xs_call.specs.GlueCode.{slots_of, xsub_body, xsub_function}
 use Rattle.xs_meaning.specs.DeclaredMeaning.{sum_of}
 use Rattle.xs_sim.specs.RunnerStates.{state, world, frame, holds, EndsAs, resting, idle}
 use Rattle.xs_call.proofs.Bodies.{HoldAll, inputs_from, usage_means, work_means, trapped_means, large_means, returned_means}
@@ -42,13 +42,13 @@ module _ (code : Code) (sub args temps : List ℕ) (cells : Cells) (names : List
     end = called code sub args (suc turns) (resting o vars f before t0)
 
     abbrev unset : List Operand
-    unset = replicate (length x.params + 2) Unset
+    unset = replicate (length (slots_of x)) Unset
 
     -- the state at the entry of the function
     abbrev entry : State World
     entry = state unset (frame sub 0) (world cells args (0 + length args) (0 ∷ []) temps names) turns
 
-    enters : end ≡ call_over counted_rows code (depths_of before) (meaning counted_rows (xsub_body x) entry)
+    enters : end ≡ call_over counted_rows code (depths_of before) (exec counted_rows (xsub_body x) entry)
     enters = over code sub args temps cells names o vars f t0 goes (suc turns) held ∙ rw (known, here) refl
 
     -- another number of arguments

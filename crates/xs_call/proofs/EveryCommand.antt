@@ -10,7 +10,7 @@ use Rattle.xs_machine.specs.declared.machine.Outcome.{Outcome}
 use Rattle.xs_machine.specs.declared.machine.Outcome.TheVariants as outcome
 use Rattle.xs_machine.specs.Machine.{Mach, called, is_over, undefined_text}
 use Rattle.xs_api.specs.Rows.{usage_text}
-use Rattle.xs_ccheck.specs.TypedTree.{Code}
+use Rattle.xs_ctree.specs.TypedTree.{Code}
 use Rattle.xs_api.specs.World.{Cells, World, live_of, registered}
 use Rattle.xs_values.specs.declared.plain.Plain.TheVariants.{Int}
 use Rattle.xs_values.specs.declared.trap.Trap.TheVariants.{Large}

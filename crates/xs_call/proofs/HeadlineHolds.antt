@@ -1,31 +1,33 @@
 -- The boot, and all commands: the two transcripts are one.
-use Rattle.std.proofs.Common.{◌≡◌, ℕ, ◌+◌, arith, List, [], ◌∷◌, ◌++◌, length, Option, Some, None, refl, sym, ap, subst, ◌∙◌}
+use Rattle.std.proofs.Common.{◌≡◌, ℕ, ◌+◌, arith, cond, List, [], ◌∷◌, ◌++◌, length, map, Option, Some, None, refl, sym, ap, subst, ◌∙◌}
 use Rattle.std.specs.Prelude.{codes, slice_get}
+use Rattle.std.specs.Option.{option_map}
+use Rattle.xs_machine.proofs.BareCode.{function_bare, places_do_not_matter}
 use Rattle.xs_machine.proofs.Ends.{run_over}
 use Rattle.xs_api.specs.declared.api.Abrupt.TheVariants.{Returns}
 use Rattle.xs_api.specs.declared.api.Registered.{Registered}
 use Rattle.xs_machine.specs.declared.machine.Outcome.TheVariants as outcome
-use Rattle.xs_machine.specs.Cmean.{meaning_all}
-use Rattle.xs_ccheck.specs.Functions.{boot_at, function_at}
-use Rattle.xs_machine.specs.Machine.{Mach, Enter, Leave, boot_begun, booted, call_meaning, call_over, loaded, new_world, run, run_on, with_call}
+use Rattle.xs_machine.specs.Cmean.{exec_all}
+use Rattle.xs_ctree.specs.Functions.{boot_at, boot_from, function_at, name_of}
+use Rattle.xs_machine.specs.Machine.{Mach, Enter, Leave, begun_at, boot_begun, booted, call_meaning, call_over, loaded, new_world, run, run_on, with_call, with_world}
 use Rattle.xs_machine.specs.Dispatch.{counted_rows}
 use Rattle.xs_machine.specs.MachineState.{State, Stop}
-use Rattle.xs_ccheck.specs.TypedTree.{Code}
-use Rattle.xs_api.specs.World.{World, depths_of, new_cells}
+use Rattle.xs_ctree.specs.TypedTree.{Code, Function, bare, bare_function, is_boot, stmts_of}
+use Rattle.xs_api.specs.World.{World, depths_of, new_cells, registered}
 use Rattle.xs_iface.specs.declared.xsub.Module.{Module}
 use Rattle.xs_iface.specs.declared.xsub.Xsub.{Xsub}
 use Rattle.xs_iface.specs.SumForm.{IsSumModule}
 use Rattle.xs_meaning.specs.declared.call_command.CallCommand.{CallCommand}
 use Rattle.xs_call.specs.MachineTranscript.{most_turns, boot_report, end_of, machine_transcript}
 use Rattle.xs_call.specs.GlueCode.{boot_function, functions_on, glue_code, registrations}
-use Rattle.xs_sim.specs.TreeBuilders.{trees_of}
 use Rattle.xs_call.specs.Headline.{ExactAfter, IsExact, RunsAsDeclared, StaysExact, booted_report, exact_along, exact_after}
 use Rattle.xs_meaning.specs.DeclaredMeaning as declared
 use Rattle.xs_meaning.specs.DeclaredMeaning.{Store, declared_transcript, new_store}
 use Rattle.xs_call.specs.MachineTranscript as running
-use Rattle.xs_meaning.specs.Transcript.{Report, calls_report, go_on, live_line, script_report}
+use Rattle.xs_meaning.specs.Transcript.{Report, call_text, calls_report, go_on, live_line, script_report}
+use Rattle.xs_sim.specs.MadeArguments.{AllMade, Made, NotMade, args_made}
 use Rattle.xs_sim.specs.RunnerStates.{resting, state, world, frame}
-use Rattle.xs_call.proofs.Commands.{AtRest, SameNext}
+use Rattle.xs_call.proofs.Commands.{AtRest, SameNext, SameReport}
 use Rattle.xs_call.proofs.EveryCommand.{command_same, registered_names}
 use Rattle.xs_call.proofs.CalledNames.{boot_index, last_function, registered_on}
 
@@ -62,29 +64,64 @@ module _ (names : List Registered) where
 
 -- The registrations of a boot function, from this function on: each name is registered, and yes is returned.
 registers : (n : ℕ) (xs : List Xsub) (names : List Registered) (called : List ℕ) (turns : ℕ)
-    → meaning_all counted_rows (trees_of (registrations n xs)) (state [] (frame called 0) (world new_cells [] 0 [] [] names) turns)
+    → exec_all counted_rows (stmts_of (registrations n xs)) (state [] (frame called 0) (world new_cells [] 0 [] [] names) turns)
     ≡ Stop (Returns (2 ∷ [])) (state [] (frame called 0) (world new_cells (2 ∷ []) 1 [] [] (registered_on n xs names)) turns)
 registers n [] names called turns = refl
 registers n (x ∷ xs) names called turns = registers (n + 1) xs (record { name = x.full; function = n } ∷ names) called turns
 
-module _ (code : Code) (m : Module) (good : IsSumModule m) (glue : code.functions ≡ functions_on (boot_function m) m.xsubs) where
+-- Code that differs from other code in its places alone reports the same of a command, and boots to the same.
+report_typed : (typed : Code) (r : Mach World) (c : CallCommand) → r.pending ≡ [] → running.call_report typed r c ≡ running.call_report (bare typed) r c
+report_typed typed r c idle = by (args_made c.args r.state.store)
+  where
+    by : (made : Made) → running.call_report_with typed c r made ≡ running.call_report_with (bare typed) c r made
+    by (AllMade args w) =
+        ap (λ (x : Mach World). running.report_at_end (call_text c) args (end_of x.stopped) x)
+        (sym (places_do_not_matter typed c.sub (registered c.sub w.names) args most_turns (with_world w r) idle))
+    by (NotMade trap) = refl
+
+boot_bare : (n : ℕ) (fs : List Function) → boot_from n (map bare_function fs) ≡ boot_from n fs
+boot_bare n [] = refl
+boot_bare n (f ∷ fs) = ap (λ place. cond (is_boot f.sort) (Some n) place) (boot_bare (n + 1) fs)
+
+name_bare : (f : Option Function) → name_of (option_map bare_function f) ≡ name_of f
+name_bare None = refl
+name_bare (Some f) = refl
+
+boots_typed : (typed : Code) → booted typed most_turns loaded ≡ booted (bare typed) most_turns loaded
+boots_typed typed =
+    let boot : boot_at (bare typed) ≡ boot_at typed = boot_bare 0 typed.functions in
+    let name : name_of (function_at (bare typed) (boot_at typed)) ≡ name_of (function_at typed (boot_at typed)) =
+    ap name_of (function_bare typed (boot_at typed)) ∙ name_bare (function_at typed (boot_at typed)) in
+    sym (ap (λ f. run (bare typed) (begun_at (name_of (function_at (bare typed) f)) f [] most_turns loaded)) boot
+    ∙ ap (λ n. run (bare typed) (begun_at n (boot_at typed) [] most_turns loaded)) name
+    ∙ places_do_not_matter typed (name_of (function_at typed (boot_at typed))) (boot_at typed) [] most_turns loaded refl)
+
+module _ (typed code : Code) (m : Module) (good : IsSumModule m) (glue : code.functions ≡ functions_on (boot_function m) m.xsubs)
+    (reports : (r : Mach World) (c : CallCommand) → r.pending ≡ [] → running.call_report typed r c ≡ running.call_report code r c)
+    (boots : booted typed most_turns loaded ≡ booted code most_turns loaded) where
   abbrev names : List Registered
   names = registered_names m
 
-  calls_same : (cs : List CallCommand) (r : Mach World) (s : Store) → AtRest names r s → calls_report (running.call_report code) r cs
+  command : (r : Mach World) (s : Store) (c : CallCommand) → AtRest names r s
+      → SameReport names (running.call_report typed r c) (declared.call_report m s c)
+  command r s c a =
+      let P : Report (Mach World) → Type 0 = λ x. SameReport names x (declared.call_report m s c) in
+      subst P (sym (reports r c (ap (λ (y : Mach World). y.pending) a.is))) (command_same code m good glue r s c a)
+
+  calls_same : (cs : List CallCommand) (r : Mach World) (s : Store) → AtRest names r s → calls_report (running.call_report typed) r cs
       ≡ calls_report (declared.call_report m) s cs
   calls_same [] r s a = refl
   calls_same (c ∷ cs) r s a =
-      let one = command_same code m good glue r s c a in
-      ap (λ l. l ++ go_on (running.call_report code r c).next (λ next. calls_report (running.call_report code) next cs)) one.text
-      ∙ ap (λ l. (declared.call_report m s c).text ++ l) (goes_on names (running.call_report code r c).next (declared.call_report m s c).next
-      (λ next. calls_report (running.call_report code) next cs) (λ next. calls_report (declared.call_report m) next cs) one.next (calls_same cs))
+      let one = command r s c a in
+      ap (λ l. l ++ go_on (running.call_report typed r c).next (λ next. calls_report (running.call_report typed) next cs)) one.text
+      ∙ ap (λ l. (declared.call_report m s c).text ++ l) (goes_on names (running.call_report typed r c).next (declared.call_report m s c).next
+      (λ next. calls_report (running.call_report typed) next cs) (λ next. calls_report (declared.call_report m) next cs) one.next (calls_same cs))
 
-  calls_exact : (cs : List CallCommand) (r : Mach World) (s : Store) → AtRest names r s → exact_along m code r s cs
+  calls_exact : (cs : List CallCommand) (r : Mach World) (s : Store) → AtRest names r s → exact_along m typed r s cs
   calls_exact [] r s a = tt
   calls_exact (c ∷ cs) r s a =
-      stays_exact names (running.call_report code r c).next (declared.call_report m s c).next (λ machine1 store1. exact_along m code machine1 store1 cs)
-      (command_same code m good glue r s c a).next (calls_exact cs)
+      stays_exact names (running.call_report typed r c).next (declared.call_report m s c).next (λ machine1 store1. exact_along m typed machine1 store1 cs)
+      (command r s c a).next (calls_exact cs)
 
   -- ---- the boot
 
@@ -115,13 +152,13 @@ module _ (code : Code) (m : Module) (good : IsSumModule m) (glue : code.function
   abbrev boot_end : Mach World
   boot_end = resting (outcome.Returned (2 ∷ [])) [] (frame boot_name 0) (world new_cells (2 ∷ []) 1 [] [] names) 999999
 
-  boot_ends : booted code most_turns loaded ≡ boot_end
-  boot_ends = boot_over ∙ rw (boot_is, registers 0 m.xsubs [] boot_name 999999) refl
+  boot_ends : booted typed most_turns loaded ≡ boot_end
+  boot_ends = boots ∙ boot_over ∙ rw (boot_is, registers 0 m.xsubs [] boot_name 999999) refl
 
   abbrev boot_rest : Mach World
   boot_rest = resting (outcome.Returned (2 ∷ [])) [] (frame boot_name 0) (world new_cells [] 0 [] [] names) 999999
 
-  boot_reports : booted_report code ≡ record { text = codes "boot returned\n" ++ live_line 0 0 0; next = Some boot_rest }
+  boot_reports : booted_report typed ≡ record { text = codes "boot returned\n" ++ live_line 0 0 0; next = Some boot_rest }
   boot_reports = ap (λ (r : Mach World). boot_report (end_of r.stopped) r) boot_ends
 
   at_rest : AtRest names boot_rest new_store
@@ -139,16 +176,16 @@ module _ (code : Code) (m : Module) (good : IsSumModule m) (glue : code.function
     few = omega arith;
   }
 
-  pub transcripts_same : (cs : List CallCommand) → machine_transcript code loaded cs ≡ declared_transcript m cs
+  transcripts_same : (cs : List CallCommand) → machine_transcript typed loaded cs ≡ declared_transcript m cs
   unfolding machine_transcript declared_transcript
   transcripts_same cs =
-      ap (λ b. script_report (running.call_report code) b cs) boot_reports
+      ap (λ b. script_report (running.call_report typed) b cs) boot_reports
       ∙ ap (λ l. codes "boot returned\n" ++ live_line 0 0 0 ++ l) (calls_same cs boot_rest new_store at_rest)
 
-  pub exact_same : (cs : List CallCommand) → ExactAfter m code cs
+  exact_same : (cs : List CallCommand) → ExactAfter m typed cs
   unfolding ExactAfter
   exact_same cs =
-      let P : Report (Mach World) → Type 0 = λ b. exact_after b.next (Some new_store) (λ machine store. exact_along m code machine store cs) in
+      let P : Report (Mach World) → Type 0 = λ b. exact_after b.next (Some new_store) (λ machine store. exact_along m typed machine store cs) in
       subst P (sym boot_reports) (exact names boot_rest new_store at_rest, calls_exact cs boot_rest new_store at_rest)
 
 -- ---- the laws
@@ -159,7 +196,21 @@ unfolding glue_code
 glue_functions m = refl
 
 pub runs_as_declared : RunsAsDeclared
-runs_as_declared m good cs = transcripts_same (glue_code m) m good (glue_functions m) cs
+runs_as_declared m good cs = transcripts_same (glue_code m) (glue_code m) m good (glue_functions m) (λ r c idle. refl) refl cs
 
 pub stays_exact_after : StaysExact
-stays_exact_after m good cs = exact_same (glue_code m) m good (glue_functions m) cs
+stays_exact_after m good cs = exact_same (glue_code m) (glue_code m) m good (glue_functions m) (λ r c idle. refl) refl cs
+
+-- Both hold of all code that differs from the glue code in its places alone.
+module _ (m : Module) (good : IsSumModule m) (typed : Code) (same : bare typed ≡ glue_code m) (cs : List CallCommand) where
+  reports_typed : (r : Mach World) (c : CallCommand) → r.pending ≡ [] → running.call_report typed r c ≡ running.call_report (glue_code m) r c
+  reports_typed r c idle = report_typed typed r c idle ∙ ap (λ x. running.call_report x r c) same
+
+  boots_glue : booted typed most_turns loaded ≡ booted (glue_code m) most_turns loaded
+  boots_glue = boots_typed typed ∙ ap (λ x. booted x most_turns loaded) same
+
+  pub typed_runs : machine_transcript typed loaded cs ≡ declared_transcript m cs
+  typed_runs = transcripts_same typed (glue_code m) m good (glue_functions m) reports_typed boots_glue cs
+
+  pub typed_exact : ExactAfter m typed cs
+  typed_exact = exact_same typed (glue_code m) m good (glue_functions m) reports_typed boots_glue cs

@@ -13,7 +13,8 @@ use Rattle.std.specs.List.{AllByRecursion as All}
 use Rattle.xs_iface.specs.PassedLines.{is_passed_line}
 use Rattle.xs_iface.specs.SumForm.{IsSumModule}
 use Rattle.xs_machine.specs.Machine.{loaded}
-use Rattle.xs_ccheck.specs.Typing.{typed_of}
+use Rattle.xs_ccheck.specs.FileTyping.{typed_of}
+use Rattle.xs_ctree.specs.TypedTree.{Code, bare}
 use Rattle.xs_script.specs.CommandTree.{CommandView}
 use Rattle.xs_script.specs.Script.{script_of}
 use Rattle.xs_base.proofs.Unless.{faultless}
@@ -30,7 +31,7 @@ use Rattle.xs_call.specs.Laws.{EachFileGivesSums, EachTextLeavesNothing, EachTex
 use Rattle.xs_meaning.specs.DeclaredMeaning.{declared_transcript}
 use Rattle.xs_call.specs.MachineTranscript.{machine_transcript}
 use Rattle.xs_call.proofs.Typed.{text_typed}
-use Rattle.xs_call.proofs.HeadlineHolds.{runs_as_declared, stays_exact_after}
+use Rattle.xs_call.proofs.HeadlineHolds.{typed_exact, typed_runs}
 
 -- ---- what is known of the module of a file
 
@@ -62,24 +63,27 @@ each_file xs m e = (is_read xs m e).sums
 
 -- ---- the text
 
--- The written text is read as the code that the law is about.
-is_read_as_code : (m : Module) → IsRead m → code_of (glue_text m) ≡ Ok (glue_code m)
+-- The written text is read as the code that the law is about, but for places.
+is_read_as_code : (m : Module) → IsRead m → (c : Code) × ((code_of (glue_text m) ≡ Ok c) × (bare c ≡ glue_code m))
 is_read_as_code m r =
     let back = reads_back m r.sums r.passed in
-    ap (λ tree. tree >>= typed_of) back.read ∙ text_typed m r.sums back.tree back.same
+    let there = text_typed m r.sums back.tree back.same in
+    (there.0, (ap (λ tree. tree >>= typed_of) back.read ∙ there.1.0, there.1.1))
 
 -- The text that is written for an XS file, read and run, does what the file declares.
 pub text_runs : EachTextRunsAsDeclared
 unfolding text_transcript
 text_runs xs m cs e =
     let r = is_read xs m e in
-    ap (λ code. code >>= λ c. Ok (machine_transcript c loaded cs)) (is_read_as_code m r) ∙ ap Ok (runs_as_declared m r.sums cs)
+    let there = is_read_as_code m r in
+    ap (λ code. code >>= λ c. Ok (machine_transcript c loaded cs)) there.1.0 ∙ ap Ok (typed_runs m r.sums there.0 there.1.1 cs)
 
 -- and leaves nothing after
 pub text_leaves_nothing : EachTextLeavesNothing
 text_leaves_nothing xs m cs e =
     let r = is_read xs m e in
-    record { code = glue_code m; read = is_read_as_code m r; exact = stays_exact_after m r.sums cs }
+    let there = is_read_as_code m r in
+    record { code = there.0; read = there.1.0; exact = typed_exact m r.sums there.0 there.1.1 cs }
 
 -- The job of `call`, by what its stages gave.
 pub call_gives : (xs script : List ℕ) (m : Module) (command_view : List CommandView) (cs : List CallCommand) (result : Result (List ℕ) Refuse)

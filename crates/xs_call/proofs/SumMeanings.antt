@@ -6,10 +6,10 @@ use Rattle.std.specs.Prelude.{slice_index_or, Result, Ok, Err}
 use Rattle.xs_api.specs.declared.api.Frame.{Frame}
 use Rattle.xs_api.specs.declared.api.Operand.{Operand}
 use Rattle.xs_api.specs.declared.api.Operand.TheVariants.{Unset, Num}
-use Rattle.xs_machine.specs.Cmean.{meaning}
+use Rattle.xs_machine.specs.Cmean.{eval}
 use Rattle.xs_machine.specs.Dispatch.{counted_rows}
 use Rattle.xs_machine.specs.MachineState.{State, Done, calculate}
-use Rattle.xs_ccheck.specs.TypedTree.{Tree, Binary}
+use Rattle.xs_ctree.specs.TypedTree.{Expr, Binary}
 use Rattle.xs_api.specs.World.{World}
 use Rattle.xs_values.specs.declared.kind.Kind.TheVariants.{I32}
 use Rattle.xs_values.specs.declared.operator.Op.TheVariants.{Add}
@@ -39,20 +39,20 @@ module _ (inputs : List Number) (others : List Operand) (f : Frame) (w : World) 
   abbrev over : State World
   over = state (map Num inputs ++ others) f w turns
 
-  term_means : (t : Term) → IsTermOf (length inputs) t → meaning counted_rows (term_tree t) over ≡ Done (Num (term_value inputs t)) over
+  term_means : (t : Term) → IsTermOf (length inputs) t → eval counted_rows (term_tree t) over ≡ Done (Num (term_value inputs t)) over
   term_means (term.Parameter at) h = rw (variable_is inputs others at h) refl
   term_means (term.Literal value) h = refl
 
   -- a sum that goes on from what was summed so far
-  more_means : (ts : List Term) (tree : Tree) (r : Result Number Trap) → All (IsTermOf (length inputs)) ts → meaning counted_rows tree over ≡ calculate r over
-      → meaning counted_rows (glue.sum_on tree ts) over ≡ calculate (declared.sum_on inputs r ts) over
+  more_means : (ts : List Term) (tree : Expr) (r : Result Number Trap) → All (IsTermOf (length inputs)) ts → eval counted_rows tree over ≡ calculate r over
+      → eval counted_rows (glue.sum_on tree ts) over ≡ calculate (declared.sum_on inputs r ts) over
   more_means [] tree (Ok n) h e = e
   more_means [] tree (Err trap) h e = e
   more_means (t ∷ ts) tree (Ok n) h e =
       more_means ts (Binary Add tree (term_tree t)) (calculated Add n (term_value inputs t)) h.1 (rw (e, term_means t h.0) refl)
   more_means (t ∷ ts) tree (Err trap) h e = more_means ts (Binary Add tree (term_tree t)) (Err trap) h.1 (rw e refl)
 
-  pub sum_means : (ts : List Term) → All (IsTermOf (length inputs)) ts → meaning counted_rows (sum_tree ts) over ≡ calculate (sum_of inputs ts) over
+  pub sum_means : (ts : List Term) → All (IsTermOf (length inputs)) ts → eval counted_rows (sum_tree ts) over ≡ calculate (sum_of inputs ts) over
   sum_means [] h = refl
   sum_means (t ∷ ts) h = more_means ts (term_tree t) (Ok (term_value inputs t)) h.1 (term_means t h.0)
 

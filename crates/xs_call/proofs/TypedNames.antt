@@ -10,11 +10,12 @@ use Rattle.xs_base.specs.Scanning.{is_identifier}
 use Rattle.xs_iface.specs.SumForm.{Differ}
 use Rattle.xs_perlapi.specs.Table.{is_interface_word}
 use Rattle.xs_iface.specs.ReservedWords.{glue_words, is_free, is_no_xsub_name}
-use Rattle.xs_ccheck.specs.declared.code.ValueType.TheVariants.{Number, Scalar}
-use Rattle.xs_ccheck.specs.declared.resolve_names.Found.{Found}
-use Rattle.xs_ccheck.specs.declared.resolve_names.Local.{Local}
+use Rattle.xs_ctree.specs.declared.value_type.Slot.{Slot}
+use Rattle.xs_ctree.specs.declared.value_type.ValueType.TheVariants.{Number, Scalar}
+use Rattle.xs_ccheck.specs.declared.scopes.Local.{Local}
 use Rattle.xs_ctok.specs.CWords.{is_dropped_statement, is_dropped_word, is_no_name, is_reserved, other_reserved}
-use Rattle.xs_ccheck.specs.Typing.{index_from, variable_of}
+use Rattle.xs_ccheck.specs.Scopes.{variable_of}
+use Rattle.xs_ccheck.specs.StmtTyping.{index_from}
 use Rattle.xs_stub.specs.Stub.{name_or_nothing}
 use Rattle.xs_values.specs.declared.kind.Kind.TheVariants.{I32}
 
@@ -52,73 +53,74 @@ no_scalar word h = another (codes "RETVALSV") refl word h
 
 -- ---- variables
 
--- a variable of type `int`, as it is found
-abbrev pub int_at : ℕ → Found
-int_at slot = record { of_type = Number I32; slot = slot }
+-- a variable of type `int` that is declared at a line
+abbrev pub int_at : ℕ → ℕ → Slot
+int_at line slot = record { number = slot; of_type = Number I32; line = line }
 
-abbrev pub scalar_at : ℕ → Found
-scalar_at slot = record { of_type = Scalar; slot = slot }
+abbrev pub scalar_at : ℕ → ℕ → Slot
+scalar_at line slot = record { number = slot; of_type = Scalar; line = line }
 
-abbrev pub int_local : List ℕ → ℕ → Local
-int_local name slot = record { name = name; of_type = Number I32; slot = slot }
+abbrev pub int_local : ℕ → List ℕ → ℕ → Local
+int_local line name slot = record { name = name; slot = int_at line slot }
 
-abbrev pub scalar_local : List ℕ → ℕ → Local
-scalar_local name slot = record { name = name; of_type = Scalar; slot = slot }
+abbrev pub scalar_local : ℕ → List ℕ → ℕ → Local
+scalar_local line name slot = record { name = name; slot = scalar_at line slot }
 
 -- the variables of parameters, from a slot on
-abbrev pub locals_from : ℕ → List Param → List Local
-locals_from slot [] = []
-locals_from slot (p ∷ ps) = int_local p.name slot ∷ locals_from (slot + 1) ps
+abbrev pub locals_from : ℕ → ℕ → List Param → List Local
+locals_from line slot [] = []
+locals_from line slot (p ∷ ps) = int_local line p.name slot ∷ locals_from line (slot + 1) ps
 
 -- Each of these parameters is found, at the slots in their order.
-abbrev pub Known : List Local → ℕ → List Param → Type 0
-Known variables slot [] = Unit {0}
-Known variables slot (p ∷ ps) = (variable_of variables p.name ≡ Some (int_at slot)) × Known variables (slot + 1) ps
+abbrev pub Known : ℕ → List Local → ℕ → List Param → Type 0
+Known line variables slot [] = Unit {0}
+Known line variables slot (p ∷ ps) = (variable_of variables p.name ≡ Some (int_at line slot)) × Known line variables (slot + 1) ps
 
 -- None of them is found yet.
 abbrev pub Unknown : List Local → List Param → Type 0
 Unknown variables ps = All (λ p. variable_of variables p.name ≡ None) ps
 
-abbrev found_first : Local → Option Found → Bool → Option Found
-found_first v others b = cond b (Some (record { of_type = v.of_type; slot = v.slot })) others
+abbrev found_first : Local → Option Slot → Bool → Option Slot
+found_first v others b = cond b (Some v.slot) others
 
 passed_by : (v : Local) (all : List Local) (name : List ℕ) → bytes_eq v.name name ≡ false → variable_of (v ∷ all) name ≡ variable_of all name
 unfolding variable_of
 passed_by v all name h = ap (found_first v (variable_of all name)) h
 
 found_here : (v : Local) (all : List Local) (name : List ℕ) → bytes_eq v.name name ≡ true
-    → variable_of (v ∷ all) name ≡ Some (record { of_type = v.of_type; slot = v.slot })
+    → variable_of (v ∷ all) name ≡ Some v.slot
 unfolding variable_of
 found_here v all name h = ap (found_first v (variable_of all name)) h
 
-found_at_once : (v : Local) (all : List Local) → variable_of (v ∷ all) v.name ≡ Some (record { of_type = v.of_type; slot = v.slot })
+found_at_once : (v : Local) (all : List Local) → variable_of (v ∷ all) v.name ≡ Some v.slot
 found_at_once v all = found_here v all v.name (same v.name)
 
 pub none_found : (name : List ℕ) → variable_of [] name ≡ None
 unfolding variable_of
 none_found name = refl
 
-known_after : (v : Local) (all : List Local) (slot : ℕ) (ps : List Param) → list_any (λ later. bytes_eq v.name later) (map (λ p. p.name) ps) ≡ false
-    → Known all slot ps → Known (v ∷ all) slot ps
-known_after v all slot [] h k = tt
-known_after v all slot (p ∷ ps) h k =
+known_after : (line : ℕ) (v : Local) (all : List Local) (slot : ℕ) (ps : List Param) → list_any (λ later. bytes_eq v.name later) (map (λ p. p.name) ps) ≡ false
+    → Known line all slot ps → Known line (v ∷ all) slot ps
+known_after line v all slot [] h k = tt
+known_after line v all slot (p ∷ ps) h k =
     let each = or_parts (bytes_eq v.name p.name) _ h in
-    (passed_by v all p.name each.0 ∙ k.0, known_after v all (slot + 1) ps each.1 k.1)
+    (passed_by v all p.name each.0 ∙ k.0, known_after line v all (slot + 1) ps each.1 k.1)
 
 -- The variables of parameters that differ are all found.
-pub all_known : (slot : ℕ) (ps : List Param) (after : List Local) → Differ (map (λ p. p.name) ps) → Known (locals_from slot ps ++ after) slot ps
-all_known slot [] after d = tt
-all_known slot (p ∷ ps) after d = (
-  found_at_once (int_local p.name slot) (locals_from (slot + 1) ps ++ after),
-  known_after (int_local p.name slot) (locals_from (slot + 1) ps ++ after)
-      (slot + 1) ps d.0 (all_known (slot + 1) ps after d.1),
+pub all_known : (line slot : ℕ) (ps : List Param) (after : List Local) → Differ (map (λ p. p.name) ps) → Known line (locals_from line slot ps ++ after) slot ps
+all_known line slot [] after d = tt
+all_known line slot (p ∷ ps) after d = (
+  found_at_once (int_local line p.name slot) (locals_from line (slot + 1) ps ++ after),
+  known_after line (int_local line p.name slot) (locals_from line (slot + 1) ps ++ after)
+      (slot + 1) ps d.0 (all_known line (slot + 1) ps after d.1),
 )
 
 -- A word that names no parameter is looked up after them.
-pub no_param : (word : List ℕ) (slot : ℕ) (ps : List Param) (after : List Local) → All (λ p. bytes_eq p.name word ≡ false) ps
-    → variable_of (locals_from slot ps ++ after) word ≡ variable_of after word
-no_param word slot [] after h = refl
-no_param word slot (p ∷ ps) after h = passed_by (int_local p.name slot) (locals_from (slot + 1) ps ++ after) word h.0 ∙ no_param word (slot + 1) ps after h.1
+pub no_param : (word : List ℕ) (line slot : ℕ) (ps : List Param) (after : List Local) → All (λ p. bytes_eq p.name word ≡ false) ps
+    → variable_of (locals_from line slot ps ++ after) word ≡ variable_of after word
+no_param word line slot [] after h = refl
+no_param word line slot (p ∷ ps) after h =
+    passed_by (int_local line p.name slot) (locals_from line (slot + 1) ps ++ after) word h.0 ∙ no_param word line (slot + 1) ps after h.1
 
 none_after : (all : List Local) (v : Local) (name : List ℕ) → variable_of all name ≡ None → bytes_eq v.name name ≡ false
     → variable_of (all ++ v ∷ []) name ≡ None
@@ -127,7 +129,7 @@ none_after (w ∷ all) v name h e = by (bytes_eq w.name name) refl (none_after a
   where
     by : (b : Bool) → bytes_eq w.name name ≡ b → (variable_of all name ≡ None → bytes_eq v.name name ≡ false → variable_of (all ++ v ∷ []) name ≡ None)
         → variable_of ((w ∷ all) ++ v ∷ []) name ≡ None
-    by true is then_none = absurd (let some : Some (record { of_type = w.of_type; slot = w.slot }) ≡ None = sym (found_here w all name is) ∙ h in cc)
+    by true is then_none = absurd (let some : Some w.slot ≡ None = sym (found_here w all name is) ∙ h in cc)
     by false is then_none = passed_by w (all ++ v ∷ []) name is ∙ then_none (sym (passed_by w all name is) ∙ h) e
 
 -- A new variable makes no other name known.
@@ -143,11 +145,11 @@ none_known [] = tt
 none_known (p ∷ ps) = (none_found p.name, none_known ps)
 
 -- the parameter at a place
-pub known_at : (variables : List Local) (slot at : ℕ) (ps : List Param) → Known variables slot ps → at < length ps
-    → variable_of variables (name_or_nothing (slice_get ps at)) ≡ Some (int_at (slot + at))
-known_at variables slot at [] k h = absurd (let none : at < 0 = h in omega arith)
-known_at variables slot zero (p ∷ ps) k h = k.0 ∙ ap (λ n. Some (int_at n)) (omega arith)
-known_at variables slot (suc at) (p ∷ ps) k h = known_at variables (slot + 1) at ps k.1 (omega arith) ∙ ap (λ n. Some (int_at n)) (omega arith)
+pub known_at : (line : ℕ) (variables : List Local) (slot at : ℕ) (ps : List Param) → Known line variables slot ps → at < length ps
+    → variable_of variables (name_or_nothing (slice_get ps at)) ≡ Some (int_at line (slot + at))
+known_at line variables slot at [] k h = absurd (let none : at < 0 = h in omega arith)
+known_at line variables slot zero (p ∷ ps) k h = k.0 ∙ ap (λ n. Some (int_at line n)) (omega arith)
+known_at line variables slot (suc at) (p ∷ ps) k h = known_at line variables (slot + 1) at ps k.1 (omega arith) ∙ ap (λ n. Some (int_at line n)) (omega arith)
 
 -- ---- functions
 

@@ -11,7 +11,7 @@ use Rattle.xs_meaning.specs.Transcript.{Report}
 use Rattle.xs_iface.specs.SumForm.{IsSumModule}
 use Rattle.xs_iface.specs.declared.xsub.Module.{Module}
 use Rattle.xs_machine.specs.Machine.{Mach, booted, loaded}
-use Rattle.xs_ccheck.specs.TypedTree.{Code}
+use Rattle.xs_ctree.specs.TypedTree.{Code}
 use Rattle.xs_api.specs.World.{World, live_of}
 
 -- ---- the machine
@@ -59,7 +59,7 @@ ExactAfter m code cs =
 
 -- ---- the laws
 
--- The glue, as resolved trees, does what the interface declares.
+-- The glue, as typed code, does what the interface declares.
 abbrev pub RunsAsDeclared : Type 0
 RunsAsDeclared = (m : Module) → IsSumModule m → (cs : List CallCommand)
     → machine_transcript (glue_code m) loaded cs ≡ declared_transcript m cs

@@ -9,8 +9,8 @@ use Rattle.xs_call.specs.MachineTranscript.{machine_transcript}
 use Rattle.xs_iface.specs.declared.xsub.Module.{Module}
 use Rattle.xs_iface.specs.Iface.{module_of}
 use Rattle.xs_machine.specs.Machine.{loaded}
-use Rattle.xs_ccheck.specs.TypedTree.{Code}
-use Rattle.xs_ccheck.specs.Typing.{typed_of}
+use Rattle.xs_ctree.specs.TypedTree.{Code}
+use Rattle.xs_ccheck.specs.FileTyping.{typed_of}
 use Rattle.xs_script.specs.Script.{script_of}
 use Rattle.xs_sections.specs.Cut.{split_of}
 use Rattle.xs_stub.specs.Intended.{text_tree}

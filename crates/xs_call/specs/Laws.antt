@@ -1,7 +1,7 @@
 -- Laws of the jobs: what is owed to the C text that is written for an XS file.
 use Rattle.std.specs.Prelude.{◌≡◌, ℕ, List, Ok}
-use Rattle.xs_ccheck.specs.TypedTree.{Code}
-use Rattle.xs_ccheck.specs.Typing.{typed_of}
+use Rattle.xs_ctree.specs.TypedTree.{Code, bare}
+use Rattle.xs_ccheck.specs.FileTyping.{typed_of}
 use Rattle.xs_call.specs.GlueCode.{glue_code}
 use Rattle.xs_call.specs.Headline.{ExactAfter}
 use Rattle.xs_call.specs.Jobs.{code_of, module_in, text_transcript}
@@ -13,10 +13,10 @@ use Rattle.xs_meaning.specs.DeclaredMeaning.{declared_transcript}
 use Rattle.xs_stub.specs.Intended.{glue_tree}
 use Rattle.xs_stub.specs.Stub.{glue_text}
 
--- Each tree that is the intended one but for lines has the code of the glue.
+-- Each tree that is the intended one but for lines has the code of the glue, but for places.
 abbrev pub TextResolves : Type 0
 TextResolves = (m : Module) → IsSumModule m → (t : FileTree) → unlined t ≡ unlined (glue_tree m)
-    → typed_of t ≡ Ok (glue_code m)
+    → (code : Code) × ((typed_of t ≡ Ok code) × (bare code ≡ glue_code m))
 
 -- The C text that is written for a module, read and run, gives each call its declared meaning.
 abbrev pub TextRunsAsDeclared : Module → List CallCommand → Type 0

@@ -7,7 +7,7 @@ use Rattle.xs_machine.specs.declared.machine.Outcome.{Outcome}
 use Rattle.xs_machine.specs.declared.machine.Outcome.TheVariants as outcome
 use Rattle.xs_machine.specs.Machine.{Mach, booted, called, settled, with_world}
 use Rattle.xs_sim.specs.MadeArguments.{Made, AllMade, NotMade, args_made}
-use Rattle.xs_ccheck.specs.TypedTree.{Code}
+use Rattle.xs_ctree.specs.TypedTree.{Code}
 use Rattle.xs_api.specs.World.{Cells, World, cell_at, live_of}
 use Rattle.xs_script.specs.ValueText.{value_text_of}
 

@@ -4,8 +4,8 @@ ghost use Rattle.xs_call.specs.Laws.{EachFileGivesSums, EachTextLeavesNothing, E
 ghost use Rattle.xs_call.specs.Headline.{RunsAsDeclared, StaysExact};
 ghost use Rattle.xs_call.specs.Laws.{TextResolves};
 
-/// The resolved trees of the glue of a module whose XSUBs are sums, run by the counted machine on
-/// any script, give the transcript that the module's interface declares. After the boot and after
+/// The typed code of the glue of a module whose XSUBs are sums, run by the counted machine on
+/// any script, gives the transcript that the module's interface declares. After the boot and after
 /// each command that goes on no counted scalar, no temporary, no mark and no scope is left, and the
 /// next scalar has the name that the declared store gives next.
 #[tactic(auto, using(crate::proofs::HeadlineHolds::runs_as_declared, crate::proofs::HeadlineHolds::stays_exact_after))]
@@ -28,7 +28,8 @@ pub fn written_text_runs_as_declared()
     ensures exact { EachTextLeavesNothing }
 {}
 
-/// A tree that is the intended one but for lines has the resolved trees of the glue.
+/// A tree that is the intended one but for lines has the typed code of the glue, but for
+/// places.
 #[tactic(auto, using(crate::proofs::Typed::text_typed))]
 pub fn written_text_resolves()
     ensures { TextResolves }

@@ -1,6 +1,8 @@
 -- How far a walk down a tree of C goes: the nodes of the forms that are built. A node whose parts are taken up by a rule of its own counts for two.
-use Rattle.std.proofs.Common.{ℕ, ◌+◌}
-use Rattle.xs_cexpr.specs.ExpressionTree.{ExprTree, Call, Set, Two, Cast, ExprTrees, NoExprs, MoreExprs, PlaceTree, StPlace}
+use Rattle.std.proofs.Common.{◌≡◌, ℕ, zero, suc, ◌+◌, ◌<◌, List, [], ◌∷◌, length, map, ap, arith, get_or}
+use Rattle.xs_cexpr.specs.declared.tree.Expr.{Expr}
+use Rattle.xs_cexpr.specs.ExpressionViews.{expr_tree}
+use Rattle.xs_cexpr.specs.ExpressionTree.{exprs_of, ExprTree, Call, Set, Two, Cast, ExprTrees, NoExprs, MoreExprs, PlaceTree, StPlace}
 
 abbrev mutual
   pub expr_size : ExprTree → ℕ
@@ -17,3 +19,10 @@ abbrev mutual
   pub place_size : PlaceTree → ℕ
   place_size (StPlace line at) = expr_size at + 1
   place_size _ = 1
+
+-- an argument is smaller than all
+pub item_smaller : (args : List Expr) (i : ℕ) (a : Expr) → i < length args → a ≡ get_or args i a
+    → expr_size (expr_tree a) < exprs_size (exprs_of (map expr_tree args))
+item_smaller [] i a lt e = absurd (omega (arith, lt))
+item_smaller (b ∷ rest) zero a lt e = omega (arith, ap (λ z. expr_size (expr_tree z)) e)
+item_smaller (b ∷ rest) (suc i) a lt e = omega (arith, item_smaller rest i a (omega (arith, lt)) e)

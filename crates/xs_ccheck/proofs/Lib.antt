@@ -1,9 +1,5 @@
-pub mod Forest
-pub mod Callees
-pub mod Unlined
-pub mod Growing
-pub mod Kept
+pub mod Collecting
 pub mod ExprSizes
-pub mod CallsAgree
-pub mod StmtSizes
-pub mod StatementsKept
+pub mod Lists
+pub mod Loops
+pub mod Unlined

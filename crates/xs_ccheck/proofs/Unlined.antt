@@ -1,86 +1,220 @@
--- Names and types do not depend on lines: two trees that are equal but for lines have the same code, or neither has any.
-use Rattle.std.proofs.Common.{◌≡◌, ℕ, ◌+◌, suc, Bool, true, false, cond, List, [], ◌∷◌, ◌++◌, map, codes, Option, None, Some, Result, Ok, Err, refl, sym, ap, ◌∙◌}
-use Rattle.std.specs.Option.{option_map}
-use Rattle.std.specs.Result.{result_ok}
+-- Files that are equal but for lines have the same code but for places, or none has code.
+use Rattle.std.proofs.Common.{◌≡◌, ℕ, zero, ◌+◌, suc, subst, Bool, true, false, cond, List, [], ◌∷◌, ◌++◌, length, map, take, drop, codes, Option, None, Some, Result, Ok, Err, refl, sym, ap, ap₂, ◌∙◌}
+use Rattle.std.specs.Option.{option_map, is_some}
+use Rattle.std.specs.Map.{lookup}
 use Rattle.std.specs.Str.{bytes_eq}
+use Rattle.std.specs.Prelude.{◌&&◌, nat_eq}
+use Rattle.std.proofs.lemmas.List.{take-map, drop-map, length-map, map-append}
 use Rattle.std.proofs.lemmas.Option.{same_Some}
-use Rattle.xs_base.specs.Reading.{◌>>=◌}
 use Rattle.xs_base.specs.declared.fault.Fault.{Fault}
+use Rattle.xs_base.specs.declared.fault_codes.TheConstants.{DECLARED_TWICE, WRONG_NUMBER_OF_ARGUMENTS}
 use Rattle.xs_cinput.specs.declared.tree.BinaryOp.TheVariants as c
-use Rattle.xs_csyn.specs.declared.tree.Define.{Define}
+use Rattle.xs_cexpr.specs.ExpressionTree as syntax_expr
+use Rattle.xs_cexpr.specs.ExpressionTree.{ExprTree, ExprTrees, PlaceTree, VarPlace, StPlace, unlined_expr, unlined_exprs, unlined_place}
+use Rattle.xs_cstmt.specs.StatementTree as syntax_stmt
+use Rattle.xs_cstmt.specs.StatementTree.{DeclaratorTree, StmtTree, StmtTrees, unlined_declarator, unlined_stmt, unlined_stmts}
 use Rattle.xs_cstmt.specs.declared.tree.PerlForm.{PerlForm}
 use Rattle.xs_cstmt.specs.declared.tree.PerlForm.TheVariants as form
 use Rattle.xs_cstmt.specs.declared.tree.PerlWord.{PerlWord}
 use Rattle.xs_cstmt.specs.declared.tree.PerlWord.TheVariants as word
-use Rattle.xs_cexpr.specs.ExpressionTree as syntax_expr
-use Rattle.xs_cstmt.specs.StatementTree as syntax_stmt
-use Rattle.xs_cexpr.specs.ExpressionTree.{ExprTree, ExprTrees, NoExprs, MoreExprs, PlaceTree, VarPlace, StPlace, unlined_expr, unlined_exprs, unlined_place}
-use Rattle.xs_cstmt.specs.StatementTree.{DeclaratorTree, StmtTree, StmtTrees, NoStmts, MoreStmts, unlined_declarator, unlined_stmt, unlined_stmts}
+use Rattle.xs_csyn.specs.declared.tree.Define.{Define}
 use Rattle.xs_csyn.specs.FileTree.{XsFunTree, ItemTree, XsFunItem, FileTree, unlined, unlined_define, unlined_item}
-use Rattle.xs_ccheck.specs.declared.code.ValueType.{ValueType}
-use Rattle.xs_ccheck.specs.declared.code.ValueType.TheVariants as type_of
-use Rattle.xs_ccheck.specs.declared.resolve_names.Found.{Found}
-use Rattle.xs_ccheck.specs.declared.resolve_names.Local.{Local}
 use Rattle.xs_values.specs.declared.operator.Op.{Op}
 use Rattle.xs_perlapi.specs.declared.row.ApiType.{ApiType}
-use Rattle.xs_perlapi.specs.Table.{RowCall, row_named}
-use Rattle.xs_ccheck.specs.TypedTree.{Tree, Function, Code}
-use Rattle.xs_ccheck.specs.Typing.{Typed_tree, Operands, Target, To_variable, To_item, Scope, expr, exprs, place_in, stmt, stmts, perl, perl_word, function, functions, item, item_name, item_place, first_define, typed_items, typed_of, use_of, target, put, operated_type, operated_as, cast_from, type_named, others, expected_operands, expr_count, called, usage, usage_of, usage_word, is_cv, text_in, is_number, is_scalar, goes_into, is_condition, a_condition, declared, declarator, declaration, is_in_use, registered_as, index_of, variable_of, at_begin, is_earlier}
+use Rattle.xs_perlapi.specs.Table.{RowCall, is_interface_word, row_named}
+use Rattle.xs_ctree.specs.declared.value_type.Slot.{Slot}
+use Rattle.xs_ctree.specs.declared.value_type.ValueType.{ValueType}
+use Rattle.xs_ctree.specs.declared.value_type.ValueType.TheVariants as type_of
+use Rattle.xs_perlapi.specs.declared.row.Row.TheVariants.{Entry}
+use Rattle.xs_ctree.specs.TypedTree.{Expr, Exprs, NoExprs, MoreExprs, Literal, Variable, ItemCount, Binary, Cast, Assign, Api, Usage, Target, ToItem, Stmt, MoreStmts, Block, Effect, Declare, If, Quit, nothing, Function, Code, exprs_of, stmts_of, bare, bare_expr, bare_exprs, bare_function, bare_slot, bare_stmt, bare_stmts, bare_target}
+use Rattle.xs_ccheck.specs.declared.names.Where.{Where}
+use Rattle.xs_ccheck.specs.declared.scopes.Local.{Local}
+use Rattle.xs_ccheck.specs.Checked.{Checked, Good, Bad, answer, behind, both, more, Judged, Fine, Wrong, judged, unbuilt}
+use Rattle.xs_ccheck.specs.ExprTyping.{TypedExpr, TypedTarget, all_fit, as_typed, assigned, called, cast, expr, exprs, is_cv, item_place, name_meant, operated, other_name, place_in, row_judged, text_in, typed, usage, usage_of, usage_word, variable_place}
+use Rattle.xs_ccheck.specs.FileTyping.{behind_entry, code_meant, defines, entry_form, entry_line, entry_of, entry_word, function, function_done, function_from, function_judged, functions, is_boot_name, is_earlier, item, item_name, names_of, sort_of, typed_of, where_in, with_entry}
+use Rattle.xs_ccheck.specs.Scopes.{Scope, beginning, declarators_behind, is_in_use, knowing, named, new_variable, next_slot, scope_behind, scopes_behind, variable_of, with_variable}
+use Rattle.xs_ccheck.specs.StmtTyping.{FileNames, conditional, declaration, declarator, declared, effect, index_of, perl, perl_word, quits, registered, stmt, stmts}
+use Rattle.xs_ccheck.specs.TypeNames.{declared_type, type_named}
+use Rattle.xs_ccheck.specs.ValueTypes.{goes_into, is_condition, is_number, is_operand, of_cast, of_two, result_type}
 
--- Two results give the same.
-record Alike {A : Type 0} (r s : Result A Fault) : Type 0 where
-  is : result_ok r ≡ result_ok s
+-- ---- two answers that are the same where `view` sees them
 
-alike : {A : Type 0} (r : Result A Fault) → Alike r r
-alike r = record { is = refl }
+abbrev seen : {A B : Type 0} → (A → B) → Checked A → Option B
+seen view (Good a) = Some (view a)
+seen view (Bad f) = None
 
-faults : {A : Type 0} (f g : Fault) → Alike {A = A} (Err f) (Err g)
-faults f g = record { is = refl }
+record Alike {A B : Type 0} (view : A → B) (r s : Checked A) : Type 0 where
+  is : seen view r ≡ seen view s
 
-after : {A B : Type 0} (r s : Result A Fault) (k l : A → Result B Fault) → Alike r s → ((a : A) → Alike (k a) (l a)) → Alike (r >>= k) (s >>= l)
-after (Ok a) (Ok b) k l h then_is = record { is = (then_is a).is ∙ ap (λ c. result_ok (l c)) (same_Some a b h.is) }
-after (Err f) (Err g) k l h then_is = record { is = refl }
-after (Ok a) (Err g) k l h then_is = let e = h.is in absurd cc
-after (Err f) (Ok b) k l h then_is = let e = h.is in absurd cc
+abbrev seen_in : {A B : Type 0} → (A → B) → Judged A → Option B
+seen_in view (Fine a) = Some (view a)
+seen_in view (Wrong code word) = None
 
-chosen : {A : Type 0} (b : Bool) (r s t u : Result A Fault) → Alike r s → Alike t u → Alike (cond b r t) (cond b s u)
-chosen true r s t u h k = h
-chosen false r s t u h k = k
+record AlikeIn {A B : Type 0} (view : A → B) (j k : Judged A) : Type 0 where
+  is : seen_in view j ≡ seen_in view k
+
+good : {A B : Type 0} (view : A → B) (a b : A) → view a ≡ view b → Alike view (Good a) (Good b)
+good view a b e = record { is = ap Some e }
+
+fine : {A B : Type 0} (view : A → B) (a b : A) → view a ≡ view b → AlikeIn view (Fine a) (Fine b)
+fine view a b e = record { is = ap Some e }
+
+wrongs : {A B : Type 0} (view : A → B) (m n : ℕ) (v w : List ℕ) → AlikeIn view (Wrong m v) (Wrong n w)
+wrongs view m n v w = record { is = refl }
+
+by_test : {A B : Type 0} (view : A → B) (b : Bool) (j k l m : Judged A) → AlikeIn view j k → AlikeIn view l m → AlikeIn view (cond b j l) (cond b k m)
+by_test view true j k l m h1 h2 = h1
+by_test view false j k l m h1 h2 = h2
+
+judged_alike : {A B : Type 0} (view : A → B) (m n : ℕ) (j k : Judged A) → AlikeIn view j k → Alike view (judged m j) (judged n k)
+judged_alike view m n (Fine a) (Fine b) h = record { is = h.is }
+judged_alike view m n (Wrong d v) (Wrong e w) h = record { is = refl }
+judged_alike view m n (Fine a) (Wrong e w) h = let e = h.is in absurd cc
+judged_alike view m n (Wrong d v) (Fine b) h = let e = h.is in absurd cc
+
+-- the same judgement at two lines
+at_lines : {A B : Type 0} (view : A → B) (m n : ℕ) (j : Judged A) → Alike view (judged m j) (judged n j)
+at_lines view m n j = judged_alike view m n j j (record { is = refl })
+
+after : {A B C D : Type 0} (view : A → B) (shown : C → D) (r s : Checked A) (k l : A → Checked C) → Alike view r s
+    → ((a b : A) → view a ≡ view b → Alike shown (k a) (l b)) → Alike shown (behind r k) (behind s l)
+after view shown (Good a) (Good b) k l h next = next a b (same_Some (view a) (view b) h.is)
+after view shown (Bad f) (Bad g) k l h next = record { is = refl }
+after view shown (Good a) (Bad g) k l h next = let e = h.is in absurd cc
+after view shown (Bad f) (Good b) k l h next = let e = h.is in absurd cc
+
+after_both : {A B C D E F : Type 0} (u : A → B) (v : C → D) (w : E → F) (p q : Checked A) (r s : Checked C) (k l : A → C → Checked E)
+    → Alike u p q → Alike v r s → ((a b : A) (x y : C) → u a ≡ u b → v x ≡ v y → Alike w (k a x) (l b y))
+    → Alike w (both p r k) (both q s l)
+after_both u v w (Good a) (Good b) (Good x) (Good y) k l h g next = next a b x y (same_Some (u a) (u b) h.is) (same_Some (v x) (v y) g.is)
+after_both u v w (Good a) (Good b) (Bad f) (Bad d) k l h g next = record { is = refl }
+after_both u v w (Bad f) (Bad d) (Good x) (Good y) k l h g next = record { is = refl }
+after_both u v w (Bad f) (Bad d) (Bad f1) (Bad d1) k l h g next = record { is = refl }
+after_both u v w (Good a) (Bad d) r s k l h g next = let e = h.is in absurd cc
+after_both u v w (Bad f) (Good b) r s k l h g next = let e = h.is in absurd cc
+after_both u v w (Good a) (Good b) (Good x) (Bad d) k l h g next = let e = g.is in absurd cc
+after_both u v w (Good a) (Good b) (Bad f) (Good y) k l h g next = let e = g.is in absurd cc
+after_both u v w (Bad f) (Bad d) (Good x) (Bad d1) k l h g next = let e = g.is in absurd cc
+after_both u v w (Bad f) (Bad d) (Bad f1) (Good y) k l h g next = let e = g.is in absurd cc
+
+more_alike : {A B : Type 0} (view : A → B) (p q : Checked A) (r s : Checked (List A)) → Alike view p q → Alike (map view) r s
+    → Alike (map view) (more p r) (more q s)
+more_alike view p q r s h g = after_both view (map view) (map view) p q r s _ _ h g (λ a b xs ys e k. record { is = ap Some (ap₂ (λ x zs. x ∷ zs) e k) })
+
+-- ---- variables
+
+abbrev bare_local : Local → Local
+bare_local v = record { name = v.name; slot = bare_slot v.slot }
+
+abbrev bare_locals : List Local → List Local
+bare_locals vs = map bare_local vs
+
+abbrev bare_scope : Scope → Scope
+bare_scope s = record { variables = bare_locals s.variables; slots = map bare_slot s.slots }
+
+by_name : (b : Bool) (s : Slot) (x y : Option Slot) → x ≡ option_map bare_slot y → cond b (Some (bare_slot s)) x ≡ option_map bare_slot (cond b (Some s) y)
+by_name true s x y e = refl
+by_name false s x y e = e
+
+found_bare : (vs : List Local) (name : List ℕ) → variable_of (bare_locals vs) name ≡ option_map bare_slot (variable_of vs name)
+unfolding variable_of
+found_bare [] name = refl
+found_bare (v ∷ vs) name = by_name (bytes_eq v.name name) v.slot _ _ (found_bare vs name)
+
+some_bare : (o : Option Slot) → is_some (option_map bare_slot o) ≡ is_some o
+some_bare None = refl
+some_bare (Some v) = refl
+
+use_bare : (vs : List Local) (name : List ℕ) → is_in_use (bare_locals vs) name ≡ is_in_use vs name
+unfolding is_in_use
+use_bare vs name = rw (found_bare vs name, some_bare (variable_of vs name)) refl
 
 -- ---- expressions
 
-use_alike : (line : ℕ) (name : List ℕ) (found : Option Found) → Alike (use_of line name found) (use_of 0 name found)
-use_alike line name None = chosen (bytes_eq name (codes "items")) _ _ _ _ (alike _) (faults _ _)
-use_alike line name (Some v) = alike _
+abbrev bare_typed : TypedExpr → TypedExpr
+bare_typed x = as_typed (bare_expr x.tree) x.of_type
 
-target_alike : (line : ℕ) (name : List ℕ) (found : Option Found) → Alike (target line name found) (target 0 name found)
-target_alike line name None = faults _ _
-target_alike line name (Some v) = alike _
+abbrev bare_place : TypedTarget → TypedTarget
+bare_place p = record { target = bare_target p.target; of_type = p.of_type }
 
-place_alike : (line : ℕ) (e : Typed_tree) → Alike (item_place line e) (item_place 0 e)
-place_alike line e = chosen (is_number e.of_type) _ _ _ _ (alike _) (faults _ _)
+same_type : (x y : TypedExpr) → bare_typed x ≡ bare_typed y → x.of_type ≡ y.of_type
+same_type x y e = ap (λ (z : TypedExpr). z.of_type) e
 
-put_alike : (line : ℕ) (to : Target) (e : Typed_tree) → Alike (put line to e) (put 0 to e)
-put_alike line (To_variable slot t) e = chosen (goes_into e.of_type t) _ _ _ _ (alike _) (faults _ _)
-put_alike line (To_item at) e = chosen (is_scalar e.of_type) _ _ _ _ (alike _) (faults _ _)
+same_tree : (x y : TypedExpr) → bare_typed x ≡ bare_typed y → bare_expr x.tree ≡ bare_expr y.tree
+same_tree x y e = ap (λ (z : TypedExpr). z.tree) e
 
-operated_alike : (line : ℕ) (o : Op) (a b : Tree) (t : Option ValueType) → Alike (operated_as line o a b t) (operated_as 0 o a b t)
-operated_alike line o a b None = faults _ _
-operated_alike line o a b (Some t) = alike _
+typed_alike : (f g : ValueType → Expr) (j k : Judged ValueType) → ((t : ValueType) → bare_expr (f t) ≡ bare_expr (g t)) → j ≡ k
+    → AlikeIn bare_typed (typed f j) (typed g k)
+typed_alike f g j k same e = subst (λ l. AlikeIn bare_typed (typed f j) (typed g l)) e (one j)
+  where
+    one : (l : Judged ValueType) → AlikeIn bare_typed (typed f l) (typed g l)
+    one (Fine t) = record { is = ap (λ x. Some (as_typed x t)) (same t) }
+    one (Wrong code word) = record { is = refl }
 
-cast_alike : (line : ℕ) (t : Option ValueType) (e : Typed_tree) → Alike (cast_from line t e) (cast_from 0 t e)
-cast_alike line None e = faults _ _
-cast_alike line (Some (type_of.Number kind)) e = chosen (is_number e.of_type) _ _ _ _ (alike _) (faults _ _)
-cast_alike line (Some type_of.Scalar) e = chosen (is_scalar e.of_type) _ _ _ _ (alike _) (faults _ _)
-cast_alike line (Some type_of.Void) e = faults _ _
+when_alike : {A B : Type 0} (view : A → B) (b d : Bool) (x y : A) (code : ℕ) (word : List ℕ) → b ≡ d → view x ≡ view y
+    → AlikeIn view (cond b (Fine x) (Wrong code word)) (cond d (Fine y) (Wrong code word))
+when_alike view b d x y code word e same =
+    subst (λ t. AlikeIn view (cond b (Fine x) (Wrong code word)) (cond t (Fine y) (Wrong code word))) e
+    (by_test view b _ _ _ _ (fine view x y same) (wrongs view code code word word))
 
-called_alike : (line : ℕ) (name : List ℕ) (count : ℕ) (r : Option RowCall) (xs : Operands) → Alike (called line name count r xs) (called 0 name count r xs)
-called_alike line name count None xs = faults _ _
-called_alike line name count (Some r) xs = chosen _ _ _ _ _ (chosen xs.fit _ _ _ _ (alike _) (faults _ _)) (faults _ _)
+meant_alike : (name : List ℕ) (o : Option Slot) → AlikeIn bare_typed (name_meant name o) (name_meant name (option_map bare_slot o))
+meant_alike name None = record { is = refl }
+meant_alike name (Some v) = record { is = refl }
 
-count_alike : (args : ExprTrees) → expr_count args ≡ expr_count (unlined_exprs args)
-count_alike NoExprs = refl
-count_alike (MoreExprs a all) = ap suc (count_alike all)
+variable_alike : (name : List ℕ) (o : Option Slot) → AlikeIn bare_place (variable_place name o) (variable_place name (option_map bare_slot o))
+variable_alike name None = record { is = refl }
+variable_alike name (Some v) = record { is = refl }
+
+operated_alike : (op : Op) (x y a b : TypedExpr) → bare_typed x ≡ bare_typed y → bare_typed a ≡ bare_typed b
+    → AlikeIn bare_typed (operated op x a) (operated op y b)
+operated_alike op x y a b e g =
+    typed_alike _ _ _ _ (λ t. ap₂ (Binary op) (same_tree x y e) (same_tree a b g)) (ap₂ (of_two op) (same_type x y e) (same_type a b g))
+
+cast_alike : (to : Option ValueType) (x y : TypedExpr) → bare_typed x ≡ bare_typed y → AlikeIn bare_typed (cast to x) (cast to y)
+cast_alike to x y e = typed_alike _ _ _ _ (λ t. ap (Cast t) (same_tree x y e)) (ap (of_cast to) (same_type x y e))
+
+item_alike : (x y : TypedExpr) → bare_typed x ≡ bare_typed y → AlikeIn bare_place (item_place x) (item_place y)
+item_alike x y e =
+    when_alike bare_place _ _ _ _ _ _ (ap is_number (same_type x y e)) (ap (λ t. record { target = ToItem t; of_type = type_of.Scalar }) (same_tree x y e))
+
+assigned_alike : (line : ℕ) (p q : TypedTarget) (x y : TypedExpr) → bare_place p ≡ bare_place q → bare_typed x ≡ bare_typed y
+    → AlikeIn bare_typed (assigned line p x) (assigned 0 q y)
+assigned_alike line p q x y e g =
+    let t : p.of_type ≡ q.of_type = ap (λ (z : TypedTarget). z.of_type) e in
+    let to : bare_target p.target ≡ bare_target q.target = ap (λ (z : TypedTarget). z.target) e in
+    when_alike bare_typed _ _ _ _ _ _ (ap₂ goes_into (same_type x y g) t) (ap₂ as_typed (ap₂ (Assign 0) to (same_tree x y g)) t)
+
+-- ---- calls
+
+fit_bare : (wanted : List ApiType) (xs : List TypedExpr) → all_fit wanted (map bare_typed xs) ≡ all_fit wanted xs
+fit_bare [] xs = refl
+fit_bare (w ∷ ws) [] = refl
+fit_bare (w ∷ ws) (x ∷ xs) = ap (λ b. is_operand w x.of_type && b) (fit_bare ws xs)
+
+exprs_bare : (es : List Expr) → bare_exprs (exprs_of es) ≡ exprs_of (map bare_expr es)
+exprs_bare [] = refl
+exprs_bare (e ∷ es) = ap (MoreExprs (bare_expr e)) (exprs_bare es)
+
+trees_bare : (xs : List TypedExpr) → map bare_expr (map (λ x. x.tree) xs) ≡ map (λ x. x.tree) (map bare_typed xs)
+trees_bare [] = refl
+trees_bare (x ∷ xs) = ap (λ ts. bare_expr x.tree ∷ ts) (trees_bare xs)
+
+row_alike : (line : ℕ) (r : RowCall) (xs ys : List TypedExpr) → map bare_typed xs ≡ map bare_typed ys
+    → AlikeIn bare_typed (row_judged line r xs) (row_judged 0 r ys)
+row_alike line r xs ys e =
+    let trees : bare_exprs (exprs_of (map (λ x. x.tree) xs)) ≡ bare_exprs (exprs_of (map (λ x. x.tree) ys)) =
+    exprs_bare _ ∙ ap exprs_of (trees_bare xs) ∙ ap (λ zs. exprs_of (map (λ x. x.tree) zs)) e ∙ sym (ap exprs_of (trees_bare ys)) ∙ sym (exprs_bare _) in
+    when_alike bare_typed _ _ _ _ _ _ (sym (fit_bare r.operands xs) ∙ ap (all_fit r.operands) e ∙ fit_bare r.operands ys)
+    (ap (λ ts. as_typed (Api 0 r.row ts) (result_type r.result)) trees)
+
+called_alike : (line : ℕ) (name : List ℕ) (r : Option RowCall) (xs ys : List TypedExpr) → map bare_typed xs ≡ map bare_typed ys
+    → AlikeIn bare_typed (called line name r xs) (called 0 name r ys)
+called_alike line name None xs ys e = record { is = refl }
+called_alike line name (Some r) xs ys e =
+    let same : length xs ≡ length ys = sym (length-map xs bare_typed) ∙ ap length e ∙ length-map ys bare_typed in
+    subst (λ n. AlikeIn bare_typed (called line name (Some r) xs)
+    (cond (nat_eq n (length r.operands)) (row_judged 0 r ys) (Wrong WRONG_NUMBER_OF_ARGUMENTS name))) same
+    (by_test bare_typed (nat_eq (length xs) (length r.operands)) _ _ _ _ (row_alike line r xs ys e) (wrongs bare_typed _ _ _ _))
 
 cv_alike : (a : ExprTree) → is_cv a ≡ is_cv (unlined_expr a)
 cv_alike (syntax_expr.Var line name) = refl
@@ -90,129 +224,282 @@ text_alike : (a : ExprTree) → text_in a ≡ text_in (unlined_expr a)
 text_alike (syntax_expr.Str line text) = refl
 text_alike _ = refl
 
-usage_of_alike : (line : ℕ) (cv : Bool) (text : Option (List ℕ)) → Alike (usage_of line cv text) (usage_of 0 cv text)
-usage_of_alike line true (Some text) = alike _
-usage_of_alike line true None = faults _ _
-usage_of_alike line false text = faults _ _
+usage_of_alike : (line : ℕ) (cv : Bool) (text : Option (List ℕ)) → AlikeIn bare_typed (usage_of line cv text) (usage_of 0 cv text)
+usage_of_alike line true (Some text) = record { is = refl }
+usage_of_alike line true None = record { is = refl }
+usage_of_alike line false text = record { is = refl }
 
-usage_alike : (line : ℕ) (args : ExprTrees) → Alike (usage line args) (usage 0 (unlined_exprs args))
-usage_alike line NoExprs = faults _ _
-usage_alike line (MoreExprs a NoExprs) = faults _ _
-usage_alike line (MoreExprs a (MoreExprs b NoExprs)) =
+usage_alike : (line : ℕ) (args : ExprTrees) → AlikeIn bare_typed (usage line args) (usage 0 (unlined_exprs args))
+usage_alike line syntax_expr.NoExprs = record { is = refl }
+usage_alike line (syntax_expr.MoreExprs a syntax_expr.NoExprs) = record { is = refl }
+usage_alike line (syntax_expr.MoreExprs a (syntax_expr.MoreExprs b syntax_expr.NoExprs)) =
     record {
-      is = (usage_of_alike line (is_cv a) (text_in b)).is ∙ ap (λ c. result_ok (usage_of 0 c (text_in b))) (cv_alike a)
-          ∙ ap (λ t. result_ok (usage_of 0 (is_cv (unlined_expr a)) t)) (text_alike b);
+      is = (usage_of_alike line (is_cv a) (text_in b)).is ∙ ap (λ v. seen_in bare_typed (usage_of 0 v (text_in b))) (cv_alike a)
+          ∙ ap (λ t. seen_in bare_typed (usage_of 0 (is_cv (unlined_expr a)) t)) (text_alike b);
     }
-usage_alike line (MoreExprs a (MoreExprs b (MoreExprs c more))) = faults _ _
+usage_alike line (syntax_expr.MoreExprs a (syntax_expr.MoreExprs b (syntax_expr.MoreExprs d rest))) = record { is = refl }
 
--- a call of a name, where its operands are alike
-call_alike : (line : ℕ) (name : List ℕ) (args : ExprTrees) (r s : Result Operands Fault) → Alike r s
-    → Alike (r >>= called line name (expr_count args) (row_named name)) (s >>= called 0 name (expr_count (unlined_exprs args)) (row_named name))
-call_alike line name args r s h =
-    after r s _ _ h (λ xs. record {
-      is = (called_alike line name (expr_count args) (row_named name) xs).is
-          ∙ ap (λ n. result_ok (called 0 name n (row_named name) xs)) (count_alike args);
-    })
+by_word : {A B : Type 0} (view : A → B) (b : Bool) (p q r s : Checked A) → Alike view p q → Alike view r s → Alike view (cond b p r) (cond b q s)
+by_word view true p q r s h g = h
+by_word view false p q r s h g = g
 
-module _ (variables : List Local) where
+module _ (vs : List Local) where
   mutual
     unfolding expr
 
-    expr_alike : (e : ExprTree) → Alike (expr variables e) (expr variables (unlined_expr e))
-    expr_alike (syntax_expr.Var line name) = use_alike line name (variable_of variables name)
-    expr_alike (syntax_expr.Num line value) = alike _
-    expr_alike (syntax_expr.Str line text) = faults _ _
+    expr_alike : (e : ExprTree) → Alike bare_typed (expr vs e) (expr (bare_locals vs) (unlined_expr e))
+    expr_alike (syntax_expr.Var line name) =
+        judged_alike bare_typed line 0 _ _
+        (subst (λ o. AlikeIn bare_typed (name_meant name (variable_of vs name)) (name_meant name o)) (sym (found_bare vs name))
+        (meant_alike name (variable_of vs name)))
+    expr_alike (syntax_expr.Num line value) = record { is = refl }
+    expr_alike (syntax_expr.Str line text) = record { is = refl }
     expr_alike (syntax_expr.Call line name args) =
-        chosen (bytes_eq name usage_word) _ _ _ _ (usage_alike line args)
-        (call_alike line name args _ _ (exprs_alike (expected_operands (row_named name)) args))
-    expr_alike (syntax_expr.Set line place None value) = after _ _ _ _ (place_in_alike place) (λ p. after _ _ _ _ (expr_alike value) (λ x. put_alike line p x))
-    expr_alike (syntax_expr.Two line (c.On o) a b) =
-        after _ _ _ _ (expr_alike a) (λ x. after _ _ _ _ (expr_alike b) (λ y. operated_alike line o x.tree y.tree (operated_type o x.of_type y.of_type)))
-    expr_alike (syntax_expr.Cast line to a) = after _ _ _ _ (expr_alike a) (λ x. cast_alike line (type_named to.name to.stars) x)
-    expr_alike _ = faults _ _
+        by_word bare_typed (bytes_eq name usage_word) _ _ _ _ (judged_alike bare_typed line 0 _ _ (usage_alike line args))
+        (after (map bare_typed) bare_typed _ _ _ _ (exprs_alike args)
+        (λ xs ys e. judged_alike bare_typed line 0 _ _ (called_alike line name (row_named name) xs ys e)))
+    expr_alike (syntax_expr.Set line place None value) =
+        after_both bare_place bare_typed bare_typed _ _ _ _ _ _ (place_in_alike place) (expr_alike value)
+        (λ p q x y e g. judged_alike bare_typed line 0 _ _ (assigned_alike line p q x y e g))
+    expr_alike (syntax_expr.Two line (c.On op) a b) =
+        after_both bare_typed bare_typed bare_typed _ _ _ _ _ _ (expr_alike a) (expr_alike b)
+        (λ x y z w e g. judged_alike bare_typed line 0 _ _ (operated_alike op x y z w e g))
+    expr_alike (syntax_expr.Cast line to a) =
+        after bare_typed bare_typed _ _ _ _ (expr_alike a)
+        (λ x y e. judged_alike bare_typed line 0 _ _ (cast_alike (type_named to.name to.stars) x y e))
+    expr_alike _ = record { is = refl }
 
-    exprs_alike : (operand_types : List ApiType) (es : ExprTrees)
-        → Alike (exprs variables operand_types es) (exprs variables operand_types (unlined_exprs es))
-    exprs_alike operand_types NoExprs = alike _
-    exprs_alike operand_types (MoreExprs a all) = after _ _ _ _ (expr_alike a) (λ x. after _ _ _ _ (exprs_alike (others operand_types) all) (λ xs. alike _))
+    exprs_alike : (es : ExprTrees) → Alike (map bare_typed) (exprs vs es) (exprs (bare_locals vs) (unlined_exprs es))
+    exprs_alike syntax_expr.NoExprs = record { is = refl }
+    exprs_alike (syntax_expr.MoreExprs a rest) = more_alike bare_typed _ _ _ _ (expr_alike a) (exprs_alike rest)
 
-    place_in_alike : (p : PlaceTree) → Alike (place_in variables p) (place_in variables (unlined_place p))
-    place_in_alike (VarPlace line name) = target_alike line name (variable_of variables name)
-    place_in_alike (StPlace line at) = after _ _ _ _ (expr_alike at) (λ i. place_alike line i)
-    place_in_alike _ = faults _ _
+    place_in_alike : (p : PlaceTree) → Alike bare_place (place_in vs p) (place_in (bare_locals vs) (unlined_place p))
+    place_in_alike (VarPlace line name) =
+        judged_alike bare_place line 0 _ _
+        (subst (λ o. AlikeIn bare_place (variable_place name (variable_of vs name)) (variable_place name o)) (sym (found_bare vs name))
+        (variable_alike name (variable_of vs name)))
+    place_in_alike (StPlace line at) =
+        after bare_typed bare_place _ _ _ _ (expr_alike at) (λ x y e. judged_alike bare_place line 0 _ _ (item_alike x y e))
+    place_in_alike _ = record { is = refl }
+
+-- ---- scopes
+
+with_bare : (scope : Scope) (line : ℕ) (name : List ℕ) (t : ValueType)
+    → with_variable (bare_scope scope) 0 name t ≡ bare_scope (with_variable scope line name t)
+with_bare scope line name t =
+    ap (λ b. cond b (bare_scope scope) (new_variable (bare_scope scope) name (next_slot (bare_scope scope) 0 t))) (use_bare scope.variables name)
+    ∙ by_use (is_in_use scope.variables name)
+  where
+    added : new_variable (bare_scope scope) name (next_slot (bare_scope scope) 0 t) ≡ bare_scope (new_variable scope name (next_slot scope line t))
+    added =
+        ap (λ n. new_variable (bare_scope scope) name (record { number = n; of_type = t; line = 0 })) (length-map scope.slots bare_slot)
+        ∙ ap₂ (λ vs ss. record { variables = vs; slots = ss }) (sym (map-append bare_local scope.variables _)) (sym (map-append bare_slot scope.slots _))
+
+    by_use : (b : Bool) → cond b (bare_scope scope) (new_variable (bare_scope scope) name (next_slot (bare_scope scope) 0 t))
+        ≡ bare_scope (cond b scope (new_variable scope name (next_slot scope line t)))
+    by_use true = refl
+    by_use false = added
+
+declarators_bare : (base : List ℕ) (scope : Scope) (ds : List DeclaratorTree)
+    → declarators_behind base (bare_scope scope) (map unlined_declarator ds) ≡ bare_scope (declarators_behind base scope ds)
+declarators_bare base scope [] = refl
+declarators_bare base scope (d ∷ ds) =
+    ap (λ s. declarators_behind base s (map unlined_declarator ds)) (with_bare scope d.line d.name (declared_type base d.stars))
+    ∙ declarators_bare base (with_variable scope d.line d.name (declared_type base d.stars)) ds
+
+outside_bare : (scope inner : Scope) → knowing (length (bare_scope scope).variables) (bare_scope inner)
+    ≡ bare_scope (knowing (length scope.variables) inner)
+outside_bare scope inner =
+    ap (λ n. knowing n (bare_scope inner)) (length-map scope.variables bare_local)
+    ∙ ap (λ vs. record { variables = vs; slots = map bare_slot inner.slots }) (take-map bare_local (length scope.variables) inner.variables)
+
+mutual
+  unfolding scope_behind
+
+  behind_bare : (scope : Scope) (s : StmtTree) → scope_behind (bare_scope scope) (unlined_stmt s) ≡ bare_scope (scope_behind scope s)
+  behind_bare scope (syntax_stmt.Block line body) =
+      ap (knowing (length (bare_scope scope).variables)) (all_behind_bare scope body) ∙ outside_bare scope (scopes_behind scope body)
+  behind_bare scope (syntax_stmt.Declare d) = declarators_bare d.base scope d.names
+  behind_bare scope (syntax_stmt.If line test s) = behind_bare scope s
+  behind_bare scope _ = refl
+
+  all_behind_bare : (scope : Scope) (body : StmtTrees) → scopes_behind (bare_scope scope) (unlined_stmts body) ≡ bare_scope (scopes_behind scope body)
+  all_behind_bare scope syntax_stmt.NoStmts = refl
+  all_behind_bare scope (syntax_stmt.MoreStmts s rest) =
+      ap (λ z. scopes_behind z (unlined_stmts rest)) (behind_bare scope s) ∙ all_behind_bare (scope_behind scope s) rest
 
 -- ---- statements
 
-declared_alike : (line : ℕ) (scope : Scope) (name : List ℕ) (t : Option ValueType) → Alike (declared line scope name t) (declared 0 scope name t)
-declared_alike line scope name None = faults _ _
-declared_alike line scope name (Some t) = chosen (is_in_use scope.variables name) _ _ _ _ (faults _ _) (alike _)
+quits_bare : (e : Expr) → quits (bare_expr e) ≡ quits e
+quits_bare (Literal n) = refl
+quits_bare (Variable x) = refl
+quits_bare ItemCount = refl
+quits_bare (Cast t e) = refl
+quits_bare (Binary op a b) = refl
+quits_bare (Assign at to e) = refl
+quits_bare (Api at r es) = refl
+quits_bare (Usage at text) = refl
 
-declarator_alike : (line : ℕ) (scope : Scope) (name : List ℕ) (t : Option ValueType) (value : Option ExprTree)
-    → Alike (declarator line scope name t value) (declarator 0 scope name t (option_map unlined_expr value))
-declarator_alike line scope name t None = declared_alike line scope name t
-declarator_alike line scope name t (Some value) = faults _ _
+by_quits : (line : ℕ) (e : Expr) (b : Bool) → bare_stmt (cond b (Quit line e) (Effect e)) ≡ cond b (Quit 0 (bare_expr e)) (Effect (bare_expr e))
+by_quits line e true = refl
+by_quits line e false = refl
+
+pub effect_bare : (line : ℕ) (e : Expr) → bare_stmt (effect line e) ≡ effect 0 (bare_expr e)
+effect_bare line e = by_quits line e (quits e) ∙ ap (λ b. cond b (Quit 0 (bare_expr e)) (Effect (bare_expr e))) (sym (quits_bare e))
+
+effect_alike : (line : ℕ) (x y : TypedExpr) → bare_typed x ≡ bare_typed y → bare_stmt (effect line x.tree) ≡ bare_stmt (effect 0 y.tree)
+effect_alike line x y e = effect_bare line x.tree ∙ ap (effect 0) (same_tree x y e) ∙ sym (effect_bare 0 y.tree)
+
+pub stmts_bare : (ss : List Stmt) → bare_stmts (stmts_of ss) ≡ stmts_of (map bare_stmt ss)
+stmts_bare [] = refl
+stmts_bare (s ∷ ss) = ap (MoreStmts (bare_stmt s)) (stmts_bare ss)
+
+slots_bare : (scope inner : Scope) → map bare_slot (map (λ v. v.slot) (drop (length scope.variables) inner.variables))
+    ≡ map bare_slot (map (λ v. v.slot) (drop (length (bare_scope scope).variables) (bare_scope inner).variables))
+slots_bare scope inner =
+    twice (drop (length scope.variables) inner.variables)
+    ∙ ap (λ vs. map bare_slot (map (λ v. v.slot) vs)) (sym (drop-map bare_local (length scope.variables) inner.variables))
+    ∙ ap (λ n. map bare_slot (map (λ v. v.slot) (drop n (bare_scope inner).variables))) (sym (length-map scope.variables bare_local))
+  where
+    twice : (vs : List Local) → map bare_slot (map (λ v. v.slot) vs) ≡ map bare_slot (map (λ v. v.slot) (bare_locals vs))
+    twice [] = refl
+    twice (v ∷ vs) = ap (λ ss. bare_slot v.slot ∷ ss) (twice vs)
+
+conditional_alike : (line : ℕ) (x y : TypedExpr) (s t : Stmt) → bare_typed x ≡ bare_typed y → bare_stmt s ≡ bare_stmt t
+    → AlikeIn bare_stmt (conditional line x s) (conditional 0 y t)
+conditional_alike line x y s t e g =
+    when_alike bare_stmt _ _ _ _ _ _ (ap is_condition (same_type x y e)) (ap₂ (λ z w. If 0 z w nothing) (same_tree x y e) g)
+
+declared_alike : (scope : Scope) (line : ℕ) (name : List ℕ) (t : Option ValueType)
+    → AlikeIn bare_stmt (declared scope line name t) (declared (bare_scope scope) 0 name t)
+declared_alike scope line name None = record { is = refl }
+declared_alike scope line name (Some t) =
+    subst (λ b. AlikeIn bare_stmt (declared scope line name (Some t)) (cond b (Wrong DECLARED_TWICE name) (Fine (Declare 0 (length (bare_scope scope).slots)))))
+    (sym (use_bare scope.variables name))
+    (by_test bare_stmt (is_in_use scope.variables name) _ _ _ _ (wrongs bare_stmt _ _ _ _)
+    (fine bare_stmt _ _ (ap (Declare 0) (sym (length-map scope.slots bare_slot)))))
+
+declarator_alike : (line : ℕ) (scope : Scope) (base : List ℕ) (d : DeclaratorTree) (value : Option ExprTree)
+    → Alike bare_stmt (declarator line scope base d value) (declarator 0 (bare_scope scope) base (unlined_declarator d) (option_map unlined_expr value))
+declarator_alike line scope base d None = judged_alike bare_stmt d.line 0 _ _ (declared_alike scope d.line d.name (type_named base d.stars))
+declarator_alike line scope base d (Some value) = record { is = refl }
 
 declaration_alike : (line : ℕ) (scope : Scope) (base : List ℕ) (ds : List DeclaratorTree)
-    → Alike (declaration line scope base ds) (declaration 0 scope base (map unlined_declarator ds))
-declaration_alike line scope base [] = faults _ _
-declaration_alike line scope base (d ∷ []) = declarator_alike line scope d.name (type_named base d.stars) d.value
-declaration_alike line scope base (d ∷ e ∷ more) = faults _ _
+    → Alike bare_stmt (declaration line scope base ds) (declaration 0 (bare_scope scope) base (map unlined_declarator ds))
+declaration_alike line scope base [] = record { is = refl }
+declaration_alike line scope base (d ∷ []) = declarator_alike line scope base d d.value
+declaration_alike line scope base (d ∷ e ∷ ds) = record { is = refl }
 
-condition_alike : (line : ℕ) (e : Typed_tree) → Alike (a_condition line e) (a_condition 0 e)
-condition_alike line e = chosen (is_condition e.of_type) _ _ _ _ (alike _) (faults _ _)
+perl_word_alike : (line : ℕ) (w : PerlWord) → AlikeIn bare_stmt (perl_word line w) (perl_word 0 w)
+perl_word_alike line word.XsReturnYes = record { is = refl }
+perl_word_alike line _ = record { is = refl }
 
-registered_alike : (line : ℕ) (scope : Scope) (full function : List ℕ) (f : Option ℕ)
-    → Alike (registered_as line scope full function f) (registered_as 0 scope full function f)
-registered_alike line scope full function None = faults _ _
-registered_alike line scope full function (Some f) = chosen scope.in_boot _ _ _ _ (alike _) (faults _ _)
-
-perl_word_alike : (line : ℕ) (scope : Scope) (w : PerlWord) → Alike (perl_word line scope w) (perl_word 0 scope w)
-perl_word_alike line scope word.DXsArgs = chosen scope.entered _ _ _ _ (faults _ _) (alike _)
-perl_word_alike line scope word.XsReturnYes = alike _
-perl_word_alike line scope _ = faults _ _
-
-module _ (names : List (List ℕ)) where
-  perl_alike : (line : ℕ) (scope : Scope) (f : PerlForm) → Alike (perl names line scope f) (perl names 0 scope f)
-  unfolding perl
-  perl_alike line scope (form.Word w) = perl_word_alike line scope w
-  perl_alike line scope (form.NewXs keeps full function) =
-      chosen keeps _ _ _ _ (faults _ _) (registered_alike line scope full function (index_of names function))
-  perl_alike line scope _ = faults _ _
+module _ (names : FileNames) (w : Where) where
+  perl_alike : (line : ℕ) (f : PerlForm) → AlikeIn bare_stmt (perl names w line f) (perl names w 0 f)
+  perl_alike line (form.Word word) = perl_word_alike line word
+  perl_alike line _ = record { is = refl }
 
   mutual
     unfolding stmt
 
-    stmt_alike : (scope : Scope) (s : StmtTree) → Alike (stmt names scope s) (stmt names scope (unlined_stmt s))
-    stmt_alike scope (syntax_stmt.Block line body) = after _ _ _ _ (stmts_alike scope body) (λ inner. alike _)
-    stmt_alike scope (syntax_stmt.Empty line) = alike _
+    stmt_alike : (scope : Scope) (s : StmtTree) → Alike bare_stmt (stmt names w scope s) (stmt names w (bare_scope scope) (unlined_stmt s))
+    stmt_alike scope (syntax_stmt.Block line body) =
+        after (map bare_stmt) bare_stmt _ _ _ _ (stmts_alike scope body)
+        (λ ss ts e. record {
+          is = ap Some
+              (ap₂ Block (slots_bare scope (scopes_behind scope body)
+              ∙ ap (λ z. map bare_slot (map (λ v. v.slot) (drop (length (bare_scope scope).variables) z.variables))) (sym (all_behind_bare scope body)))
+              (stmts_bare ss ∙ ap stmts_of e ∙ sym (stmts_bare ts)));
+        })
+    stmt_alike scope (syntax_stmt.Empty line) = record { is = refl }
     stmt_alike scope (syntax_stmt.Declare d) = declaration_alike d.line scope d.base d.names
-    stmt_alike scope (syntax_stmt.Effect line e) = after _ _ _ _ (expr_alike scope.variables e) (λ x. alike _)
-    stmt_alike scope (syntax_stmt.If line test then_do) =
-        after _ _ _ _ (expr_alike scope.variables test)
-        (λ x. after _ _ _ _ (condition_alike line x) (λ holds. after _ _ _ _ (stmt_alike scope then_do) (λ branch. alike _)))
-    stmt_alike scope (syntax_stmt.Perl line f) = perl_alike line scope f
-    stmt_alike scope _ = faults _ _
+    stmt_alike scope (syntax_stmt.Effect line e) =
+        after bare_typed bare_stmt _ _ _ _ (expr_alike scope.variables e) (λ x y h. record { is = ap Some (effect_alike line x y h) })
+    stmt_alike scope (syntax_stmt.If line test s) =
+        after_both bare_typed bare_stmt bare_stmt _ _ _ _ _ _ (expr_alike scope.variables test) (stmt_alike scope s)
+        (λ x y s1 t1 h g. judged_alike bare_stmt line 0 _ _ (conditional_alike line x y s1 t1 h g))
+    stmt_alike scope (syntax_stmt.Perl line f) = judged_alike bare_stmt line 0 _ _ (perl_alike line f)
+    stmt_alike scope _ = record { is = refl }
 
-    stmts_alike : (scope : Scope) (all : StmtTrees) → Alike (stmts names scope all) (stmts names scope (unlined_stmts all))
-    stmts_alike scope NoStmts = alike _
-    stmts_alike scope (MoreStmts s all) = after _ _ _ _ (stmt_alike scope s) (λ first. after _ _ _ _ (stmts_alike first.scope all) (λ more. alike _))
+    stmts_alike : (scope : Scope) (all : StmtTrees)
+        → Alike (map bare_stmt) (stmts names w scope all) (stmts names w (bare_scope scope) (unlined_stmts all))
+    stmts_alike scope syntax_stmt.NoStmts = record { is = refl }
+    stmts_alike scope (syntax_stmt.MoreStmts s rest) =
+        more_alike bare_stmt _ _ _ _ (stmt_alike scope s)
+        (subst (λ z. Alike (map bare_stmt) (stmts names w (scope_behind scope s) rest) (stmts names w z (unlined_stmts rest)))
+        (sym (behind_bare scope s)) (stmts_alike (scope_behind scope s) rest))
 
-  -- ---- files
+-- ---- files
 
+abbrev unlined_entry : Option ℕ → Option ℕ
+unlined_entry = option_map (λ n. 0)
+
+entry_word_alike : (line : ℕ) (w : PerlWord) → entry_word 0 w ≡ unlined_entry (entry_word line w)
+entry_word_alike line word.DXsArgs = refl
+entry_word_alike line _ = refl
+
+entry_form_alike : (line : ℕ) (f : PerlForm) → entry_form 0 f ≡ unlined_entry (entry_form line f)
+entry_form_alike line (form.Word w) = entry_word_alike line w
+entry_form_alike line _ = refl
+
+entry_line_alike : (s : StmtTree) → entry_line (unlined_stmt s) ≡ unlined_entry (entry_line s)
+entry_line_alike (syntax_stmt.Perl line f) = entry_form_alike line f
+entry_line_alike _ = refl
+
+entry_alike : (body : StmtTrees) → entry_of (unlined_stmts body) ≡ unlined_entry (entry_of body)
+entry_alike syntax_stmt.NoStmts = refl
+entry_alike (syntax_stmt.MoreStmts s rest) = entry_line_alike s
+
+behind_entry_alike : (entry : Option ℕ) (body : StmtTrees)
+    → behind_entry (unlined_entry entry) (unlined_stmts body) ≡ unlined_stmts (behind_entry entry body)
+behind_entry_alike None body = refl
+behind_entry_alike (Some line) syntax_stmt.NoStmts = refl
+behind_entry_alike (Some line) (syntax_stmt.MoreStmts s rest) = refl
+
+with_entry_alike : (entry : Option ℕ) (ss ts : List Stmt) → map bare_stmt ss ≡ map bare_stmt ts
+    → map bare_stmt (with_entry entry ss) ≡ map bare_stmt (with_entry (unlined_entry entry) ts)
+with_entry_alike None ss ts e = e
+with_entry_alike (Some line) ss ts e = ap (λ zs. Effect (Api 0 Entry NoExprs) ∷ zs) e
+
+done_alike : (name : List ℕ) (is_boot : Bool) (inner : Scope) (ss ts : List Stmt) → map bare_stmt ss ≡ map bare_stmt ts
+    → bare_function (function_done name is_boot inner ss) ≡ bare_function (function_done name is_boot (bare_scope inner) ts)
+done_alike name is_boot inner ss ts e =
+    ap₂ (λ ls b. record { name = name; sort = sort_of is_boot; slots = ls; body = b }) (slots_twice inner.slots)
+    (ap₂ Block (slots_bare beginning inner) (stmts_bare ss ∙ ap stmts_of e ∙ sym (stmts_bare ts)))
+  where
+    slots_twice : (ls : List Slot) → map bare_slot ls ≡ map bare_slot (map bare_slot ls)
+    slots_twice [] = refl
+    slots_twice (l ∷ ls) = ap (λ ms. bare_slot l ∷ ms) (slots_twice ls)
+
+module _ (names : FileNames) where
   function_alike : (at : ℕ) (f : XsFunTree)
-      → Alike (function names at f) (function names at (record { line = 0; name = f.name; body = unlined_stmts f.body }))
+      → Alike bare_function (function names at f) (function names at (record { line = 0; name = f.name; body = unlined_stmts f.body }))
   unfolding function
   function_alike at f =
-      after _ _ _ _ (stmts_alike (at_begin f.name) f.body) (λ body. chosen (is_earlier (index_of names f.name) at) _ _ _ _ (faults _ _) (alike _))
+      let entry = entry_of f.body in
+      let body = behind_entry entry f.body in
+      subst (λ o. Alike bare_function (function_from names at f.line f.name entry f.body) (function_from names at 0 f.name o (unlined_stmts f.body)))
+      (sym (entry_alike f.body))
+      (subst (λ b. Alike bare_function (function_from names at f.line f.name entry f.body)
+      (behind (stmts names (where_in f.name) beginning b) (λ ts. judged 0 (function_judged names at f.name
+      (function_done f.name (is_boot_name f.name) (scopes_behind beginning b) (with_entry (unlined_entry entry) ts))))))
+      (sym (behind_entry_alike entry f.body))
+      (after (map bare_stmt) bare_function _ _ _ _ (stmts_alike names (where_in f.name) beginning body)
+      (λ ss ts e. judged_alike bare_function f.line 0 _ _
+      (by_test bare_function (is_earlier (index_of names.functions f.name) at) _ _ _ _ (wrongs bare_function _ _ _ _)
+      (fine bare_function _ _
+      (done_alike f.name (is_boot_name f.name) (scopes_behind beginning body) (with_entry entry ss) (with_entry (unlined_entry entry) ts)
+      (with_entry_alike entry ss ts e)
+      ∙ ap (λ z. bare_function (function_done f.name (is_boot_name f.name) z (with_entry (unlined_entry entry) ts)))
+      (sym (all_behind_bare beginning body))))))))
 
-  item_alike : (at : ℕ) (i : ItemTree) → Alike (item names at i) (item names at (unlined_item i))
-  item_alike at (XsFunItem f) = function_alike at f
-  item_alike at _ = faults _ _
+  item_alike_at : (at : ℕ) (i : ItemTree) → Alike bare_function (item names at i) (item names at (unlined_item i))
+  item_alike_at at (XsFunItem f) = function_alike at f
+  item_alike_at at _ = record { is = refl }
 
-  functions_alike : (at : ℕ) (before : List Function) (items : List ItemTree)
-      → Alike (functions names at before items) (functions names at before (map unlined_item items))
-  functions_alike at before [] = alike _
-  functions_alike at before (i ∷ items) = after _ _ _ _ (item_alike at i) (λ here. functions_alike (at + 1) (before ++ here ∷ []) items)
+  functions_alike : (at : ℕ) (items : List ItemTree) → Alike (map bare_function) (functions names at items) (functions names at (map unlined_item items))
+  functions_alike at [] = record { is = refl }
+  functions_alike at (i ∷ items) = more_alike bare_function _ _ _ _ (item_alike_at at i) (functions_alike (at + 1) items)
 
 name_alike : (i : ItemTree) → item_name i ≡ item_name (unlined_item i)
 name_alike (XsFunItem f) = refl
@@ -220,27 +507,38 @@ name_alike _ = refl
 
 names_alike : (items : List ItemTree) → map item_name items ≡ map item_name (map unlined_item items)
 names_alike [] = refl
-names_alike (i ∷ items) = ap (λ n. n ∷ map item_name items) (name_alike i) ∙ ap (λ ns. item_name (unlined_item i) ∷ ns) (names_alike items)
+names_alike (i ∷ items) = ap₂ (λ n ns. n ∷ ns) (name_alike i) (names_alike items)
 
-items_alike : (ds : List Define) (items : List ItemTree)
-    → Alike (typed_items (first_define ds) items) (typed_items (first_define (map unlined_define ds)) (map unlined_item items))
-items_alike [] items =
-    record {
-      is = (after _ _ _ _ (functions_alike (map item_name items) 0 [] items) (λ all. alike _)).is
-          ∙ ap (λ names. result_ok (functions names 0 [] (map unlined_item items) >>= λ all. Ok (record { functions = all }))) (names_alike items);
-    }
-items_alike (d ∷ ds) items = faults _ _
+defines_alike : (ds : List Define) → Alike (map (λ (u : Unit {0}). u)) (defines ds) (defines (map unlined_define ds))
+defines_alike [] = record { is = refl }
+defines_alike (d ∷ ds) =
+    more_alike (λ (u : Unit {0}). u) (judged d.line unbuilt) (judged 0 unbuilt) (defines ds) (defines (map unlined_define ds)) (record { is = refl })
+    (defines_alike ds)
 
-file_alike : (t : FileTree) → Alike (typed_of t) (typed_of (unlined t))
+file_alike : (t : FileTree) → Alike bare (code_meant t) (code_meant (unlined t))
+unfolding code_meant
+file_alike t =
+    after_both (map (λ (u : Unit {0}). u)) (map bare_function) bare _ _ _ _ _ _ (defines_alike t.defines)
+    (subst (λ ns. Alike (map bare_function) (functions (names_of t.items) 0 t.items) (functions (record { functions = ns }) 0 (map unlined_item t.items)))
+    (names_alike t.items) (functions_alike (names_of t.items) 0 t.items))
+    (λ us vs fs gs e g. record { is = ap (λ xs. Some (record { functions = xs })) g })
+
+abbrev bare_answer : Result Code Fault → Option Code
+bare_answer (Ok c) = Some (bare c)
+bare_answer (Err f) = None
+
+told : (r : Checked Code) (c : Code) → answer r ≡ Ok c → seen bare r ≡ Some (bare c)
+told (Good a) c e = ap bare_answer e
+told (Bad f) c e = absurd cc
+
+found : (r : Checked Code) (x : Code) → seen bare r ≡ Some x → (d : Code) × ((answer r ≡ Ok d) × (x ≡ bare d))
+found (Good a) x e = (a, (refl, sym (same_Some (bare a) x e)))
+found (Bad f) x e = absurd cc
+
+-- A tree that is equal to another but for lines has the other's code but for places.
+pub types_without_lines : (t u : FileTree) (c : Code) → typed_of t ≡ Ok c → unlined t ≡ unlined u
+    → (d : Code) × ((typed_of u ≡ Ok d) × (bare c ≡ bare d))
 unfolding typed_of
-file_alike t = items_alike t.defines t.items
-
-given_is : {A : Type 0} (r : Result A Fault) (a : A) → result_ok r ≡ Some a → r ≡ Ok a
-given_is (Ok b) a e = ap Ok (same_Some b a e)
-given_is (Err f) a e = absurd cc
-
--- A tree that is equal to another but for lines has the other's code.
-pub types_without_lines : (t u : FileTree) (code : Code) → typed_of t ≡ Ok code → unlined t ≡ unlined u → typed_of u ≡ Ok code
-types_without_lines t u code typed same =
-    given_is (typed_of u) code
-    ((file_alike u).is ∙ sym (ap (λ x. result_ok (typed_of x)) same) ∙ sym (file_alike t).is ∙ ap result_ok typed)
+types_without_lines t u c e same =
+    found (code_meant u) (bare c)
+    ((file_alike u).is ∙ sym (ap (λ z. seen bare (code_meant z)) same) ∙ sym (file_alike t).is ∙ told (code_meant t) c e)

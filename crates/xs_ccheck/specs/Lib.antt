@@ -1,9 +1,10 @@
-pub mod TypedTree
-pub mod Arena
-pub mod Functions
-pub mod NamedParts
-pub mod Growth
-pub mod Typing
+pub mod Checked
+pub mod Joining
+pub mod ValueTypes
+pub mod TypeNames
+pub mod Scopes
+pub mod ExprTyping
+pub mod StmtTyping
+pub mod FileTyping
 pub mod Resolving
-pub mod ResolvingStmts
 pub mod Laws

@@ -1,43 +1,135 @@
--- What the resolving of expressions and statements gives: nodes whose trees are those of the
--- definition.
-use Rattle.std.specs.Prelude.{◌<◌, length, Result}
-use Rattle.xs_base.specs.declared.fault.Fault.{Fault}
+-- What the checking of expressions, statements and functions gives: nodes whose trees are those of
+-- the definition, or the fault that it tells.
+use Rattle.std.specs.Prelude.{◌≡◌, ℕ, true, List, [], ◌∷◌, ◌++◌, length, map, Result, Ok, Err}
+use Rattle.std.specs.declared.alloc.Global.{Global}
+use Rattle.std.specs.declared.vec.Vec.{Vec}
 use Rattle.xs_base.specs.declared.fault.Refuse.{Refuse}
-use Rattle.xs_ccheck.specs.declared.resolve_exprs.OperandNodes.{OperandNodes}
-use Rattle.xs_ccheck.specs.declared.resolve_exprs.TargetNode.{TargetNode}
-use Rattle.xs_ccheck.specs.declared.resolve_exprs.TargetNode.TheVariants as to
-use Rattle.xs_ccheck.specs.declared.resolve_exprs.TypedNode.{TypedNode}
-use Rattle.xs_ccheck.specs.declared.resolve_nodes.Nodes.{Nodes}
-use Rattle.xs_ccheck.specs.Growth.{HasNode, Resolves, tree_in, trees_in}
-use Rattle.xs_ccheck.specs.Typing.{Typed_tree, Operands, Target, To_variable, To_item}
+use Rattle.xs_base.specs.declared.fault.Refuse.TheVariants as refuse
+use Rattle.xs_csyn.specs.declared.tree.FileItem.{FileItem}
+use Rattle.xs_csyn.specs.FileViews.{item_tree}
+use Rattle.xs_ctree.specs.declared.node.TargetNode.{TargetNode}
+use Rattle.xs_ctree.specs.declared.typed.Typed.{Typed}
+use Rattle.xs_ctree.specs.Arena.{all_below, target_fits, target_from}
+use Rattle.xs_ctree.specs.Functions.{expr_in, functions_in, stmt_in}
+use Rattle.xs_ctree.specs.Growth.{HasExpr, HasStmt, Keeps}
+use Rattle.xs_ctree.specs.declared.value_type.Slot.{Slot}
+use Rattle.xs_ctree.specs.TypedTree.{Block, Function, Stmt, stmts_of}
+use Rattle.xs_ccheck.specs.declared.exprs.TypedNode.{TypedNode}
+use Rattle.xs_ccheck.specs.declared.exprs.PlaceNode.{PlaceNode}
+use Rattle.xs_ccheck.specs.Checked.{Checked, Good, Bad}
+use Rattle.xs_ccheck.specs.ExprTyping.{TypedExpr, TypedTarget}
+use Rattle.xs_ccheck.specs.FileTyping.{names_of}
+use Rattle.xs_ccheck.specs.StmtTyping.{FileNames}
 
--- an expression stands at a node
-abbrev pub typed_in : Nodes → TypedNode → Typed_tree
-typed_in b x = record { tree = tree_in b x.node; of_type = x.of_type }
+-- A call refuses with the fault that the definition tells, or where memory runs out.
+abbrev pub Refuses : {A : Type 0} → Refuse → Checked A → Type 0
+Refuses refuse.Memory read = Unit {0}
+Refuses (refuse.Fault f) read = read ≡ Bad f
 
-abbrev pub HasTyped : Nodes → TypedNode → Type 0
-HasTyped b x = HasNode b x.node
+-- What was checked is what the definition tells, where `view` sees it among the nodes; its nodes
+-- are there, and what was there is kept.
+pub record Resolved {X A : Type 0} (view : Typed → X → A) (there : Typed → X
+    → Type 0) (x : X) (old new : Typed) (read : Checked A) : Type 0 where
+  pub means : read ≡ Good (view new x)
+  pub there_is : there new x
+  pub keeps : Keeps old new
 
-abbrev pub GivesExpr : Result TypedNode Refuse → Nodes → Nodes → Result Typed_tree Fault → Type 0
+abbrev pub Resolves : {X A : Type 0} → (Typed → X → A) → (Typed → X → Type 0) → Result X Refuse
+    → Typed → Typed → Checked A → Type 0
+Resolves view there (Ok x) old new read = Resolved view there x old new read
+Resolves view there (Err e) old new read = Refuses e read
+
+-- what holds unless memory ran out
+abbrev pub UnlessMemory : {X : Type 0} → Result X Refuse → Type 0 → Type 0
+UnlessMemory (Ok x) P = P
+UnlessMemory (Err (refuse.Fault f)) P = P
+UnlessMemory (Err refuse.Memory) P = Unit {0}
+
+-- ---- expressions
+
+abbrev pub typed_in : Typed → TypedNode → TypedExpr
+typed_in t x = record { tree = expr_in t x.node; of_type = x.of_type }
+
+abbrev pub HasTyped : Typed → TypedNode → Type 0
+HasTyped t x = HasExpr t x.node
+
+abbrev pub GivesExpr : Result TypedNode Refuse → Typed → Typed → Checked TypedExpr → Type 0
 GivesExpr result old new read = Resolves typed_in HasTyped result old new read
 
--- operands stand at a node
-abbrev pub operands_in : Nodes → OperandNodes → Operands
-operands_in b x = record { trees = trees_in b x.nodes; fit = x.fit }
+abbrev pub nodes_of : List TypedNode → List ℕ
+nodes_of xs = map (λ x. x.node) xs
 
-abbrev pub GivesOperands : Result OperandNodes Refuse → Nodes → Nodes → Result Operands Fault
+abbrev pub all_typed_in : Typed → List TypedNode → List TypedExpr
+all_typed_in t xs = map (typed_in t) xs
+
+abbrev pub HaveTyped : Typed → List TypedNode → Type 0
+HaveTyped t xs = all_below (length t.exprs.items) (nodes_of xs) ≡ true
+
+abbrev pub GivesExprs : Result (Vec TypedNode Global) Refuse → Typed → Typed
+    → Checked (List TypedExpr) → Type 0
+GivesExprs result old new read =
+    Resolves (λ t v. all_typed_in t v.items) (λ t v. HaveTyped t v.items) result old new read
+
+-- what is assigned to
+abbrev pub target_in : Typed → PlaceNode → TypedTarget
+target_in t p = record { target = target_from p.target (expr_in t); of_type = p.of_type }
+
+abbrev pub HasTarget : Typed → PlaceNode → Type 0
+HasTarget t p = target_fits (length t.exprs.items) p.target ≡ true
+
+abbrev pub GivesTarget : Result PlaceNode Refuse → Typed → Typed → Checked TypedTarget → Type 0
+GivesTarget result old new read = Resolves target_in HasTarget result old new read
+
+-- ---- statements
+
+abbrev pub GivesStmt : Result ℕ Refuse → Typed → Typed → Checked Stmt → Type 0
+GivesStmt result old new read = Resolves stmt_in HasStmt result old new read
+
+abbrev pub all_stmts_in : Typed → List ℕ → List Stmt
+all_stmts_in t xs = map (stmt_in t) xs
+
+abbrev pub HaveStmts : Typed → List ℕ → Type 0
+HaveStmts t xs = all_below (length t.stmts.items) xs ≡ true
+
+abbrev pub GivesStmts : Result (Vec ℕ Global) Refuse → Typed → Typed → Checked (List Stmt) → Type 0
+GivesStmts result old new read =
+    Resolves (λ t v. all_stmts_in t v.items) (λ t v. HaveStmts t v.items) result old new read
+
+-- the end of a block with these slots, where this is what its statements came to
+abbrev pub BlockEnds : Result (Vec ℕ Global) Refuse → List Slot → Typed → Result ℕ Refuse → Typed
     → Type 0
-GivesOperands result old new read =
-    Resolves operands_in (λ b x. HasNode b x.nodes) result old new read
+BlockEnds (Ok body) slots old result new =
+    GivesStmt result old new (Good (Block slots (stmts_of (all_stmts_in old body.items))))
+BlockEnds (Err e) slots old result new = result ≡ Err e
 
-abbrev pub target_in : Nodes → TargetNode → Target
-target_in b (to.Variable slot t) = To_variable slot t
-target_in b (to.Item at) = To_item (tree_in b at)
+-- statements stand at these indices
+pub record Stand (old : Typed) (ss : List Stmt) (xs : List ℕ) (new : Typed) : Type 0 where
+  pub keeps : Keeps old new
+  pub there : HaveStmts new xs
+  pub are : all_stmts_in new xs ≡ ss
 
-abbrev pub IsThere : Nodes → TargetNode → Type 0
-IsThere b (to.Variable slot t) = Unit {0}
-IsThere b (to.Item at) = at < length b.nodes.items
+-- ---- functions
 
--- what is assigned to, with the node of its place
-abbrev pub GivesTarget : Result TargetNode Refuse → Nodes → Nodes → Result Target Fault → Type 0
-GivesTarget result old new read = Resolves target_in IsThere result old new read
+-- parts that are nothing but checked
+abbrev pub GivesNone : Result (Unit {0}) Refuse → Checked (List (Unit {0})) → Type 0
+GivesNone (Ok u) read = (us : List (Unit {0})) × (read ≡ Good us)
+GivesNone (Err e) read = Refuses e read
+
+-- a function stands after the others
+pub record IsFunction (old new : Typed) (read : Checked Function) : Type 0 where
+  pub here : Function
+  pub means : read ≡ Good here
+  pub functions : functions_in new ≡ functions_in old ++ here ∷ []
+
+abbrev pub GivesFunction : Result (Unit {0}) Refuse → Typed → Typed → Checked Function → Type 0
+GivesFunction (Ok u) old new read = IsFunction old new read
+GivesFunction (Err e) old new read = Refuses e read
+
+-- all functions stand there
+abbrev pub GivesFunctions : Result Typed Refuse → Checked (List Function) → Type 0
+GivesFunctions (Ok t) read = read ≡ Good (functions_in t)
+GivesFunctions (Err e) read = Refuses e read
+
+-- the names of a file
+abbrev pub names_in : List FileItem → FileNames
+names_in items = names_of (map item_tree items)

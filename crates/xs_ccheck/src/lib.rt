@@ -1,15 +1,17 @@
-//! The types stage: a C file becomes code whose names are slots and whose types are right, or its
-//! first fault is reported.
+//! The types stage: a C file becomes code whose names are slots and whose types are right, or the
+//! first of its faults is reported.
 #![tactic(auto)]
 
-mod code;
+mod calls;
+mod checked;
+mod exprs;
+mod faults;
+mod file;
 mod laws;
-mod resolve;
-mod resolve_exprs;
-mod resolve_names;
-mod resolve_nodes;
-mod resolve_stmts;
+mod names;
+mod scopes;
+mod stmts;
+mod value_types;
 
-pub use code::{Callable, FunctionNode, Node, Typed, ValueType};
+pub use file::check_file;
 pub use laws::types_do_not_depend_on_lines;
-pub use resolve::check_file;

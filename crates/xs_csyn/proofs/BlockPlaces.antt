@@ -19,7 +19,7 @@ use Rattle.xs_csyn.proofs.StatementsBegin.{fine_with, part_no_else}
 use Rattle.xs_csyn.proofs.StatementsLocal.{part_local, stmt_local}
 use Rattle.xs_csyn.proofs.StatementsSound.{part_yields, stmt_yields}
 use Rattle.xs_csyn.proofs.Yields.{at}
-use Rattle.xs_csyn.specs.FaultPlaces.{BlockFaultLaw, IsBlockBut, IsBlockWithin, IsFiller, IsBlock}
+use Rattle.xs_csyn.specs.FaultPlaces.{BlockFaultLaw, IsBlock, IsBlockBut, IsBlockWithin, IsFiller}
 use Rattle.xs_csyn.specs.FileGrammar.{AreNames}
 use Rattle.xs_csyn.specs.FileReader.{block_of, first_of_pair, rest_from, rest_of, start}
 use Rattle.xs_csyn.specs.Prefixes.{tallest_of_but}
@@ -49,7 +49,7 @@ module _ (Text : ℕ → List Token → Type 0) (b : Input) (x : Token) (fill : 
       let H : InnerStmt Text b x room = stmt_begins Text b x fill.is_variable fill.is_spelt fill.no_form names room in
       alike_viable {p = λ k. rest_from (stmt room) (suc k) sofar} (by_test at_end (end_tells b (t ∷ ts)) (λ is. absurd cc)
       (λ isnt. step (part_local b room (λ js. stmt_local b names room js) (t ∷ ts)) (part_yields b (stmt room) room (stmt_yields b room) (t ∷ ts))
-      (part_begins Text b x fill.is_variable fill.is_spelt fill.no_form names room H d [] refl
+      (part_begins Text b x fill.is_variable fill.is_spelt fill.no_form names room H d [] tt refl
       (λ over s ws q a low. fin over (tree.MoreStmts s tree.NoStmts) ws (g.rest_part q g.rest_over) (omega (arith, a)) (omega (arith, low))) (t ∷ ts))
       (λ one ks y. let h = part_standing y.0 in
       onward_by h.w h.front h.here (rest_begins n (sofar ++ one ∷ []) (λ js. d (h.w js))
@@ -82,8 +82,8 @@ block_fault_law file last types around ts f x names spelt fill h =
     let room : ℕ = max_nesting - around in
     let good : Good proper b.turns (kept false ts) = (omega (arith, kept_shrinks false false ts), spelt) in
     let e : rest_from (stmt room) b.turns [] b ≡ Err f = read_fault (rest_of room b) f h in
-    let v = rest_begins (λ over us. (all : StmtTrees) × Rest types all us × (depths all ≤ room + over) × (tallest_of_but x.text all ≤ max_nesting + over)) b
-    x fill names room (suc (length (kept false ts))) [] (λ js. js) (λ over all ws q a low. (all, q, a, low))
+    let v = rest_begins (λ over us. (all : StmtTrees) × Rest types all us × (depths all ≤ room + over) ×
+    (tallest_of_but x.text all ≤ max_nesting + over)) b x fill names room (suc (length (kept false ts))) [] (λ js. js) (λ over all ws q a low. (all, q, a, low))
     (kept false ts) (omega arith) in
-    stands_from {Any = IsBlock types} {r = λ k. rest_from (stmt room) k []} (λ us t. (t.0, t.1, omega (arith, t.2), omega (arith, t.3)))
+    stands_from {Any = IsBlock types} {r = λ k. rest_from (stmt room) k []} (fill.is_spelt, tt) (λ us t. (t.0, t.1, omega (arith, t.2), omega (arith, t.3)))
     (λ over us t. (t.0, t.1)) (given_fault file last types around) (block_read b names room) (v.breaks good f e) good e

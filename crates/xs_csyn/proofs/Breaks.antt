@@ -11,7 +11,7 @@ use Rattle.xs_ctok.specs.declared.token.Token.{Token}
 use Rattle.xs_cinput.specs.TokenInput.{Input, Outcome, Reader, a_name, a_variable, after, consumed, expect, expect_word, fault, here, is_name, is_sign, is_type, is_variable, is_word, line, line_at, next, passed, sees, sees_name, sees_type, sees_variable, sees_word, spelling}
 use Rattle.xs_cinput.specs.TypeReader.{a_type_word}
 use Rattle.xs_csyn.proofs.Frames.{Frame, IsFront, front_both, front_none, front_one}
-use Rattle.xs_csyn.proofs.Local.{Good, Local, Meant, NextTells, comes_to, good_after, next_stays, same_first, same_next, turned}
+use Rattle.xs_csyn.proofs.Local.{Good, Local, Meant, NextTells, comes_to, good_after, next_stays, same_first, same_next, turned, Are}
 use Rattle.xs_csyn.proofs.Yields.{Yields, at}
 use Rattle.xs_csyn.specs.FaultPlaces.{SameNext, code_of}
 
@@ -131,7 +131,7 @@ pub record Breaks {A : Type 0} (s : Meant) (x : Token) (n : ℕ) (Text : ℕ →
       → r k (turned b k (w us)) ≡ Err (fault (code_of deep) (turned b k us))
   pub more : List Token
   pub text : Text 0 (d (w more))
-  pub cause : deep ≡ true → Cause x opens rest (λ over t. (us : List Token) × Text over (d (w (t ∷ us))))
+  pub cause : deep ≡ true → Cause x opens rest (λ over t. (us : List Token) × Are s us × Text over (d (w (t ∷ us))))
 
 pub record Viable {A : Type 0} (s : Meant) (x : Token) (n : ℕ) (Text : ℕ → List Token → Type 0) (b : Input) (d : List Token → List Token) (r : ℕ → Reader A)
     (ts : List Token) : Type 0 where
@@ -177,9 +177,9 @@ less_of {us = us} e = let long : length _ ≡ suc (length us) = ap (λ (l : List
 pub retold : {s : Meant} {A : Type 0} {x : Token} {n : ℕ} {Text Told : ℕ → List Token → Type 0} {b : Input} {d e : List Token → List Token} {r : ℕ → Reader A}
     {ts : List Token} → Viable s x n Told b e r ts
     → ((w : List Token → List Token) → IsFront w → (rest more : List Token) → w rest ≡ ts → (over : ℕ) → Told over (e (w more))
-    → (js : List Token) × Text over (d (w js)))
+    → (js : List Token) × (Are s more → Are s js) × Text over (d (w js)))
     → ((w : List Token → List Token) (f : IsFront w) (rest more : List Token) → n ≤ length f.before → w rest ≡ ts → Told 0 (e (w (x ∷ more)))
-    → (js : List Token) × Text 0 (d (w (x ∷ js))))
+    → (js : List Token) × (Are s more → Are s js) × Text 0 (d (w (x ∷ js))))
     → Viable s x n Text b d r ts
 retold {s = s} {x = x} {n = n} {Text = Text} {Told = Told} {d = d} {e = e} {ts = ts} v tell tell_name = record {
   breaks = λ good f h.
@@ -195,17 +195,20 @@ retold {s = s} {x = x} {n = n} {Text = Text} {Told = Told} {d = d} {e = e} {ts =
         long = y.long;
         same = y.same;
         more = z.0;
-        text = z.1;
+        text = z.2;
         cause = λ deep. caused y.w y.front y.rest y.here y.long (y.cause deep);
       };
 }
   where
     caused : {opens : Bool} (w : List Token → List Token) (f : IsFront w) (rest : List Token) → w rest ≡ ts → (opens ≡ true → n ≤ length f.before)
-        → Cause x opens rest (λ over t. (us : List Token) × Told over (e (w (t ∷ us))))
-        → Cause x opens rest (λ over t. (us : List Token) × Text over (d (w (t ∷ us))))
-    caused w f rest here long (operand o g) = operand o (tell_name w f rest g.0 (long o) here g.1)
+        → Cause x opens rest (λ over t. (us : List Token) × Are s us × Told over (e (w (t ∷ us))))
+        → Cause x opens rest (λ over t. (us : List Token) × Are s us × Text over (d (w (t ∷ us))))
+    caused w f rest here long (operand o g) =
+        let z = tell_name w f rest g.0 (long o) here g.2 in
+        operand o (z.0, z.1 g.1, z.2)
     caused w f rest here long (sign over t us is g) =
-        sign over t us is (tell (λ js. w (t ∷ js)) (front_both f (front_one t front_none)) us g.0 (ap w (sym is) ∙ here) over g.1)
+        let z = tell (λ js. w (t ∷ js)) (front_both f (front_one t front_none)) us g.0 (ap w (sym is) ∙ here) over g.2 in
+        sign over t us is (z.0, z.1 g.1, z.2)
 
 -- a test of the next token that does not pass
 unpassed : (test : Token → Bool) (u : Token) (us js : List Token) → test u ≡ false → SameNext (u ∷ us) js → head_is test js ≡ false
@@ -242,9 +245,9 @@ module _ {s : Meant} {x : Token} {Text : ℕ → List Token → Type 0} {b : Inp
       same_only us (other o js e) = absurd cc
 
   -- an operand would be too deep here, whatever it is
-  pub operand_here : {A : Type 0} {d : List Token → List Token} {ts : List Token} {r : ℕ → Reader A} (more : List Token) → Text 0 (d (x ∷ more))
+  pub operand_here : {A : Type 0} {d : List Token → List Token} {ts : List Token} {r : ℕ → Reader A} (more : List Token) → Are s more → Text 0 (d (x ∷ more))
       → ((us : List Token) (k : ℕ) → r k (turned b k us) ≡ Err (fault (code_of true) (turned b k us))) → Viable s x 0 Text b d r ts
-  operand_here {ts = ts} more text e = record {
+  operand_here {ts = ts} more are text e = record {
     breaks = λ good f h.
         record {
           rest = ts;
@@ -257,16 +260,16 @@ module _ {s : Meant} {x : Token} {Text : ℕ → List Token → Type 0} {b : Inp
           same = λ us k n g. e us k;
           more = x ∷ more;
           text = text;
-          cause = λ is. operand refl (more, text);
+          cause = λ is. operand refl (more, are, text);
         };
   }
 
   -- what this token goes on with is too deep
   pub sign_here : {A : Type 0} {n : ℕ} {d : List Token → List Token} (t : Token) {ts : List Token} {r : ℕ → Reader A} (more : List Token) → Text 0 (d more)
-      → (over : ℕ) (us : List Token) → Text over (d (t ∷ us))
+      → (over : ℕ) (us : List Token) → Are s us → Text over (d (t ∷ us))
       → ((us : List Token) (k : ℕ) → SameNext (t ∷ ts) us → r k (turned b k us) ≡ Err (fault (code_of true) (turned b k us)))
       → Viable s x n Text b d r (t ∷ ts)
-  sign_here t {ts} more text over us goes e = record {
+  sign_here t {ts} more text over us are goes e = record {
     breaks = λ good f h.
         record {
           rest = t ∷ ts;
@@ -279,7 +282,7 @@ module _ {s : Meant} {x : Token} {Text : ℕ → List Token → Type 0} {b : Inp
           same = λ js k n g. e js k (same_only js n);
           more = more;
           text = text;
-          cause = λ is. sign over t ts refl (us, goes);
+          cause = λ is. sign over t ts refl (us, are, goes);
         };
   }
     where

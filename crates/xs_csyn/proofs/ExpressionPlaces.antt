@@ -14,13 +14,13 @@ use Rattle.xs_csyn.proofs.ExpressionsComplete.{found_of}
 use Rattle.xs_csyn.proofs.ExpressionsLocal.{expr_local}
 use Rattle.xs_csyn.proofs.ExpressionsSound.{expr_yields}
 use Rattle.xs_csyn.proofs.FilesComplete.{kept_shrinks, other_code}
-use Rattle.xs_csyn.proofs.Frames.{Frame, whole_frame}
+use Rattle.xs_csyn.proofs.Frames.{whole_frame}
 use Rattle.xs_csyn.proofs.HoleHeights.{stood_low}
-use Rattle.xs_csyn.proofs.Local.{Are, Good, Meant, any, turned}
+use Rattle.xs_csyn.proofs.Local.{Are, Good, Meant, any, turned, are_after, are_front, are_join, are_more}
 use Rattle.xs_csyn.proofs.Starts.{the_end}
 use Rattle.xs_csyn.proofs.Yields.{at}
 use Rattle.xs_cexpr.specs.ExpressionReader.{Found, expr}
-use Rattle.xs_csyn.specs.FaultPlaces.{ExprFaultLaw, IsExpr, IsExprBut, IsExprWithin, SameNext, StandsAt, TooDeepThere, any_operand, code_of, next_token}
+use Rattle.xs_csyn.specs.FaultPlaces.{ExprFaultLaw, IsExpr, IsExprBut, IsExprWithin, SameNext, StandsAt, TooDeepThere, code_of, name_too_deep, token_too_deep}
 use Rattle.xs_csyn.specs.FileReader.{expr_of, start, whole_of}
 use Rattle.xs_csyn.specs.Grammar.{IsVariable, Whole}
 use Rattle.xs_csyn.specs.Prefixes.{height_but}
@@ -39,13 +39,13 @@ fault_or_not deep r p file at_line (refused unread x) h = other_code r (fault_in
 
 pub stands_from : {s : Meant} {A T : Type 0} {x : Token} {n : ℕ} {Within : Type 0 → List Token → Type 0} {Begun Any : List Token → Type 0}
     {Text : ℕ → List Token → Type 0} {given : List Token → Result T Fault} {whole : Bool} {b : Input} {r : ℕ → Reader A} {ts : List Token} {f : Fault}
-    → ((us : List Token) → Text 0 us → Begun us) → ((over : ℕ) (us : List Token) → Text over us → Any us)
+    → Are s (x ∷ []) → ((us : List Token) → Text 0 us → Begun us) → ((over : ℕ) (us : List Token) → Text over us → Any us)
     → ((more : List Token) (h : Fault) → r (suc (length more)) (turned b (suc (length more)) (kept whole more)) ≡ Err h → given more ≡ Err h)
     → ((Deep : Type 0) (us : List Token) (k : ℕ) → length us < k → Within Deep us → (p : A × Input) × IsRead Deep (r k (turned b k us)) p)
     → (y : Breaks s x n Text b (λ js. js) r ts) → Good s b.turns ts → r b.turns (at b ts) ≡ Err f
     → StandsAt given whole (Are s) Within Begun Any x b.file b.last ts f
 unfolding fault line
-stands_from {s} {A} {T} {x} {n} {Within} {Begun} {Any} {Text} {given} {whole} {b} {r} {ts} {f} begun anyhow there done y good e = record {
+stands_from {s} {A} {T} {x} {n} {Within} {Begun} {Any} {Text} {given} {whole} {b} {r} {ts} {f} ax begun anyhow there done y good e = record {
   before = y.front.before;
   rest = y.rest;
   deep = y.deep;
@@ -84,18 +84,23 @@ stands_from {s} {A} {T} {x} {n} {Within} {Begun} {Any} {Text} {given} {whole} {b
         ∙ ap (λ c. let q : Outcome A = Err (fault_in b.file (line_at b.last (x ∷ us)) (code_of c) []) in q) deep) in
         fault_or_not true (r turns (turned b turns (y.front.before ++ x ∷ us))) m.0 b.file (line_at b.last (x ∷ us)) (is_read (bounded m.1)) fails
 
-    caused : Cause x y.opens y.rest (λ over t. (us : List Token) × Text over (y.w (t ∷ us))) → y.deep ≡ true
+    all_are : Are s (y.front.before ++ y.rest)
+    all_are = subst (λ (l : List Token). Are s l) (sym y.here ∙ y.front.is y.rest) good.1
+
+    caused : Cause x y.opens y.rest (λ over t. (us : List Token) × Are s us × Text over (y.w (t ∷ us))) → y.deep ≡ true
         → TooDeepThere (Are s) (Within ⊥) Begun Any x y.front.before y.rest
     caused (operand opens z) deep =
-        any_operand z.0 (begun (y.front.before ++ x ∷ z.0) (subst (λ (l : List Token). Text 0 l) (y.front.is (x ∷ z.0)) z.1)) (no_name opens deep)
+        name_too_deep z.0 (are_join s y.front.before (x ∷ z.0) (are_front s y.front.before y.rest all_are) (are_more s x z.0 ax z.1))
+        (begun (y.front.before ++ x ∷ z.0) (subst (λ (l : List Token). Text 0 l) (y.front.is (x ∷ z.0)) z.2)) (no_name opens deep)
     caused (sign over t us is z) deep =
-        next_token t us z.0 is (anyhow over (y.front.before ++ t ∷ z.0) (subst (λ (l : List Token). Text over l) (y.front.is (t ∷ z.0)) z.1))
+        token_too_deep t us z.0 is (are_after s y.front.before t us z.0 (subst (λ (l : List Token). Are s (y.front.before ++ l)) is all_are) z.1)
+        (anyhow over (y.front.before ++ t ∷ z.0) (subst (λ (l : List Token). Text over l) (y.front.is (t ∷ z.0)) z.2))
 
 -- ---- expressions
 
 -- nothing may be left
-abbrev ended : Found → Reader Found
-ended found = λ i. if at_end i then Ok (found, i) else refuse i
+abbrev pub ended : {A : Type 0} → A → Reader A
+ended a = λ i. if at_end i then Ok (a, i) else refuse i
 
 -- all that is left as an expression
 abbrev whole_expr : ℕ → Reader Found
@@ -128,16 +133,14 @@ read_fault (Ok p) f e = by (at_end p.1) e
     by false e = ap (λ (m : Fault). let q : Outcome Found = Err m in q) (sym (err_result (fault NO_READING_HERE p.1) f e))
 
 module _ (b : Input) where
-  -- something is left after an expression
-  ends : {n : ℕ} (x : Token) (room : ℕ) (found : Found) → height_but x.text found.tree ≤ room
-      → {ts us : List Token} (h : Frame (Whole b.types found.tree) ts us)
-      (us' : List Token)
-      → Viable any x n (λ over. IsExprBut x.text b.types (room + over)) b (λ js. h.w js) (λ k. ended found) us'
+  -- something is left after what was read
+  pub ends : {A : Type 0} {x : Token} {n : ℕ} {Text : ℕ → List Token → Type 0} {d : List Token → List Token} (a : A) (ts : List Token) → Text 0 (d [])
+      → Viable any x n Text b d (λ k. ended a) ts
   unfolding at_end
-  ends x room found low h [] = read refl
-  ends x room found low h (u ∷ us) = breaks_here [] (found.tree, h.moves [], omega (arith, low)) (λ js k n. left js k n)
+  ends a [] text = read refl
+  ends a (u ∷ us) text = breaks_here [] text (λ js k n. left js k n)
     where
-      left : (js : List Token) (k : ℕ) → SameNext (u ∷ us) js → ended found (turned b k js) ≡ Err (fault (code_of false) (turned b k js))
+      left : (js : List Token) (k : ℕ) → SameNext (u ∷ us) js → ended a (turned b k js) ≡ Err (fault (code_of false) (turned b k js))
       left [] k n = absurd n
       left (v ∷ js) k n = refl
 
@@ -145,8 +148,8 @@ module _ (b : Input) where
       → Viable any x room (λ over. IsExprBut x.text b.types (room + over)) b (λ js. js) (λ k. whole_expr room) ts
   whole_viable x v room ts =
       step_below (expr_local b room level.Whole ts) (expr_yields b room level.Whole ts)
-      (expr_begins (λ over. IsExprBut x.text b.types (room + over)) b x v room level.Whole (λ js. js) [] (λ over a ws q h. (a, q, h)) ts)
-      (λ found us y. let h = whole_frame y.stands in onward h (ends x room found (stood_low x.text y) h us))
+      (expr_begins (λ over. IsExprBut x.text b.types (room + over)) b x v tt room level.Whole (λ js. js) [] tt (λ over a ws q h. (a, q, h)) ts)
+      (λ found us y. let h = whole_frame y.stands in onward h (ends found us (found.tree, h.moves [], omega (arith, stood_low x.text y))))
 
   whole_done : (room : ℕ) (Any : Type 0) (us : List Token) (k : ℕ) → length us < k → IsExprWithin b.types room Any us
       → (p : Found × Input) × IsRead Any (whole_expr room (turned b k us)) p
@@ -163,6 +166,6 @@ expr_fault_law file last types around ts f x v h =
     let room : ℕ = max_nesting - around in
     let good : Good any b.turns (kept false ts) = (omega (arith, kept_shrinks false false ts), tt) in
     let e : whole_expr room (at b (kept false ts)) ≡ Err f = read_fault (expr room level.Whole b) f h in
-    stands_from {Any = IsExpr types} {r = λ k. whole_expr room} (λ us t. (t.0, t.1, omega (arith, t.2))) (λ over us t. (t.0, t.1))
+    stands_from {Any = IsExpr types} {r = λ k. whole_expr room} tt (λ us t. (t.0, t.1, omega (arith, t.2))) (λ over us t. (t.0, t.1))
     (λ more m. given_fault (expr room level.Whole (start false more types file last)) m) (whole_done b room)
     ((whole_viable b x v room (kept false ts)).breaks good f e) good e

@@ -28,7 +28,7 @@ use Rattle.xs_csyn.proofs.MoreTurns.{items_same}
 use Rattle.xs_csyn.proofs.Sizes.{item_shrinks}
 use Rattle.xs_csyn.proofs.StatementsBegin.{fine_with, typed_no_else}
 use Rattle.xs_csyn.proofs.Yields.{at}
-use Rattle.xs_csyn.specs.FaultPlaces.{FileFaultLaw, IsFileBut, IsFileWithin, IsFiller, IsFileText}
+use Rattle.xs_csyn.specs.FaultPlaces.{FileFaultLaw, IsFileBut, IsFileText, IsFileWithin, IsFiller}
 use Rattle.xs_csyn.specs.Prefixes.{FitItemsBut, IsFresh}
 use Rattle.xs_csyn.specs.FileGrammar as g
 use Rattle.xs_csyn.specs.FileGrammar.{AHead, AreNames, File, Item}
@@ -145,7 +145,7 @@ items_begin Text x (suc n) b fill names sofar d fin [] len fresh =
 items_begin Text x (suc n) b fill names sofar d fin (t ∷ ts) len fresh =
     alike_viable {p = λ k. items_from (suc k) sofar} (by_test at_end (end_tells b (t ∷ ts)) (λ is. absurd cc)
     (λ isnt. step (item_local b names (t ∷ ts)) (item_yields b (t ∷ ts))
-    (item_begins Text b x fill names t d [] (λ over one ws q low. fin over (one ∷ []) ws (g.item q g.file_over) (λ e. (low e, tt))) ts)
+    (item_begins Text b x fill names t d [] tt (λ over one ws q low. fin over (one ∷ []) ws (g.item q g.file_over) (λ e. (low e, tt))) ts)
     (λ one ks y. let j = item_standing y.0 in
     onward_by j.w j.front j.here (in_scope one (sofar ++ one ∷ []) (items_begin Text x n (with_types_of one b) (filler_after x y.0 fresh fill)
     (names_after y.0 names) (sofar ++ one ∷ []) (λ js. d (j.w js))
@@ -182,8 +182,8 @@ file_fault_law file last ts f x spelt fill fresh h =
     let b : Input = start true ts [] file last in
     let good : Good proper b.turns (kept true ts) = (omega (arith, kept_shrinks true false ts), spelt) in
     let e : items_from b.turns [] b ≡ Err f = read_fault (items_from b.turns [] b) (file_with (defines_of ts)) (made_ok ts) f h in
-    let v = items_begin (λ over us. (all : List ItemTree) × File [] all us × (over ≡ 0 → FitItemsBut x.text all)) x (suc (length (kept true ts))) b fill tt
-    [] (λ js. js) (λ over all ws q low. (all, q, low)) (kept true ts)
+    let v = items_begin (λ over us. (all : List ItemTree) × File [] all us × (over ≡ 0 → FitItemsBut x.text all)) x
+    (suc (length (kept true ts))) b fill tt [] (λ js. js) (λ over all ws q low. (all, q, low)) (kept true ts)
     (omega arith) fresh in
-    stands_from {Any = IsFileText} {r = λ k. items_from k []} (λ us t. (t.0, t.1, t.2 refl)) (λ over us t. (t.0, t.1)) (given_fault file last)
-    (λ Any us k few w. items_read b Any k us refl few w) (v.breaks good f e) good e
+    stands_from {Any = IsFileText} {r = λ k. items_from k []} (fill.is_spelt, tt) (λ us t. (t.0, t.1, t.2 refl)) (λ over us t. (t.0, t.1))
+    (given_fault file last) (λ Any us k few w. items_read b Any k us refl few w) (v.breaks good f e) good e

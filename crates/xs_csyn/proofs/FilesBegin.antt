@@ -1,4 +1,5 @@
 -- Where reading an item of a file breaks off, the tokens that were passed begin one.
+use Rattle.xs_csyn.specs.TokenTexts.{AreSpelt}
 use Rattle.xs_csyn.proofs.FormsBegin.{far}
 use Rattle.std.proofs.Common.{◌≡◌, ℕ, zero, suc, ◌+◌, ◌-◌, ◌<◌, ◌≤◌, Bool, true, false, if◌then◌else◌, List, [], ◌∷◌, ◌++◌, length, refl, ap, sym, subst, ◌∙◌, arith}
 use Rattle.std.proofs.lemmas.Bool.{and_from, and_parts}
@@ -216,11 +217,11 @@ module _ (Text : ℕ → List Token → Type 0) (b : Input) (x : Token) (fill : 
       (λ all ws q. let h = head_of (f.moves (u ∷ v ∷ ws)) n' is q in fin h.0 (f.w (u ∷ v ∷ ws)) h.1) ms)))))
 
   -- after `typedef`
-  typedef_begins : (t : Token) → IsWord (codes "typedef") t → (d : List Token → List Token) (us : List Token)
+  typedef_begins : (t : Token) → IsWord (codes "typedef") t → (d : List Token → List Token) (us : List Token) → AreSpelt us
       → ((over : ℕ) (one : ItemTree) (ws : List Token) → Item b.types one (t ∷ ws) us → (over ≡ 0 → FitsBut x.text one) → Text over (d ws))
       → (ts : List Token) → Viable proper x (suc far) Text b d (λ k. a_typedef t.span.line) ts
   unfolding a_typedef
-  typedef_begins t w d us fin ts =
+  typedef_begins t w d us su fin ts =
       step (type_local b ts) (type_yields b ts) (type_begins Text b x d (x ∷ stop ∷ us) (λ to ws q. fin 0 _ ws (g.a_typedef w q x_name refl) (λ e. tt)) ts)
       (λ to ks ty. let f = type_frame ty in
       onward f (by_here (λ k. typedef_then t.span.line to) (by_name ks _ (x ∷ stop ∷ us)
@@ -229,11 +230,11 @@ module _ (Text : ℕ → List Token → Type 0) (b : Input) (x : Token) (fill : 
       (λ v ms e' is. read refl)))))
 
   -- after `typedef struct`
-  record_begins : (t u : Token) → IsWord (codes "typedef") t → IsWord (codes "struct") u → (d : List Token → List Token) (us : List Token)
+  record_begins : (t u : Token) → IsWord (codes "typedef") t → IsWord (codes "struct") u → (d : List Token → List Token) (us : List Token) → AreSpelt us
       → ((over : ℕ) (one : ItemTree) (ws : List Token) → Item b.types one (t ∷ u ∷ ws) us → (over ≡ 0 → FitsBut x.text one) → Text over (d ws))
       → (ts : List Token) → Viable proper x (suc far) Text b d (λ k. a_record t.span.line) ts
   unfolding a_record
-  record_begins t u w is d us fin ts =
+  record_begins t u w is d us su fin ts =
       let end : List Token = x ∷ stop ∷ us in
       by_expect (codes "{") ts _ (sign x (codes "{") ∷ sign x (codes "}") ∷ end)
       (fin 0 _ (sign x (codes "{") ∷ sign x (codes "}") ∷ end) (g.a_record w is refl (g.fields_over refl) x_name refl) (λ e. tt))
@@ -244,17 +245,17 @@ module _ (Text : ℕ → List Token → Type 0) (b : Input) (x : Token) (fill : 
       (λ c ns e' n. by_expect (codes ";") ns _ (stop ∷ us) (fin 0 _ (v ∷ f.w (c ∷ stop ∷ us)) (g.a_record w is o (f.moves (c ∷ stop ∷ us)) n refl) (λ e. tt))
       (λ h ps e'' is'. read refl))))))
 
-  named_begins : (t : Token) → IsWord (codes "typedef") t → (d : List Token → List Token) (us : List Token)
+  named_begins : (t : Token) → IsWord (codes "typedef") t → (d : List Token → List Token) (us : List Token) → AreSpelt us
       → ((over : ℕ) (one : ItemTree) (ws : List Token) → Item b.types one (t ∷ ws) us → (over ≡ 0 → FitsBut x.text one) → Text over (d ws))
       → (ts : List Token) → Viable proper x (suc far) Text b d (λ k. named_type t.span.line) ts
   unfolding named_type sees_word next
-  named_begins t w d us fin [] =
-      by_test (sees_word (codes "struct")) (word_tells b (codes "struct") []) (λ is. absurd cc) (λ isnt. finished _ (typedef_begins t w d us fin []))
-  named_begins t w d us fin (u ∷ ks) =
+  named_begins t w d us su fin [] =
+      by_test (sees_word (codes "struct")) (word_tells b (codes "struct") []) (λ is. absurd cc) (λ isnt. finished _ (typedef_begins t w d us su fin []))
+  named_begins t w d us su fin (u ∷ ks) =
       by_test (sees_word (codes "struct")) (word_tells b (codes "struct") (u ∷ ks))
-      (λ is. after_token _ (finished _ (record_begins t u w is (λ js. d (u ∷ js)) us (λ over one ws q low. fin over one (u ∷ ws) q low) ks))
+      (λ is. after_token _ (finished _ (record_begins t u w is (λ js. d (u ∷ js)) us su (λ over one ws q low. fin over one (u ∷ ws) q low) ks))
       (λ js' k n good. refl))
-      (λ isnt. finished _ (typedef_begins t w d us fin (u ∷ ks)))
+      (λ isnt. finished _ (typedef_begins t w d us su fin (u ∷ ks)))
 
 -- ---- functions
 
@@ -262,24 +263,24 @@ module _ (Text : ℕ → List Token → Type 0) (b : Input) (x : Token) (fill : 
   inner_begins : InnerStmt Text b x (max_nesting - 1)
   inner_begins = stmt_begins Text b x fill.is_variable fill.is_spelt fill.no_form names (max_nesting - 1)
 
-  body_begin : (d : List Token → List Token) (us : List Token) → ((over : ℕ) (all : StmtTrees) (ws : List Token) → Parts b.types all ws us
+  body_begin : (d : List Token → List Token) (us : List Token) → AreSpelt us → ((over : ℕ) (all : StmtTrees) (ws : List Token) → Parts b.types all ws us
       → depths all ≤ max_nesting - 1 + over → tallest_of_but x.text all ≤ max_nesting + over → Text over (d ws))
       → (ts : List Token) → Viable proper x (suc far) Text b d (λ k. body) ts
   unfolding body
-  body_begin d us fin ts = parts_begin Text b x fill.is_variable fill.is_spelt fill.no_form names (max_nesting - 1) inner_begins d us fin ts
+  body_begin d us su fin ts = parts_begin Text b x fill.is_variable fill.is_spelt fill.no_form names (max_nesting - 1) inner_begins d us su fin ts
 
-  function_begins : (t : Token) (d : List Token → List Token) (us : List Token)
+  function_begins : (t : Token) (d : List Token → List Token) (us : List Token) → AreSpelt us
       → ((over : ℕ) (one : ItemTree) (ws : List Token) → Item b.types one ws us → (over ≡ 0 → FitsBut x.text one) → Text over (d ws))
       → (ts : List Token) → Viable proper x (suc far) Text b d (λ k. function t.span.line) (t ∷ ts)
   unfolding function
-  function_begins t d us fin ts =
+  function_begins t d us su fin ts =
       let end : List Token = sign x (codes ";") ∷ us in
       step (head_local b t.span.line (t ∷ ts)) (head_yields b t ts)
       (head_begins Text b x fill t.span.line d end (λ h ws q. fin 0 _ ws (g.prototype q refl) (λ e. tt)) (t ∷ ts))
       (λ h ks q. let f = head_frame q in
       onward f (by_eat (codes ";") ks (λ u ls e is. read refl)
       (by_expect (codes "{") ks _ end (fin 0 _ (f.w end) (g.prototype (f.moves end) refl) (λ e. tt))
-      (λ u ls e o. finished _ (body_begin (λ js. d (f.w (u ∷ js))) us
+      (λ u ls e o. finished _ (body_begin (λ js. d (f.w (u ∷ js))) us su
       (λ over all ws p a low. fin over _ (f.w (u ∷ ws)) (g.function (f.moves (u ∷ ws)) o p) (λ e. (omega (arith, a, e), omega (arith, low, e)))) ls)))))
 
   abbrev args : Token
@@ -303,18 +304,18 @@ module _ (Text : ℕ → List Token → Type 0) (b : Input) (x : Token) (fill : 
   begins_with t w us = rw w refl
 
   -- the body of an XS function
-  xs_body_begins : (d : List Token → List Token) (us : List Token)
+  xs_body_begins : (d : List Token → List Token) (us : List Token) → AreSpelt us
       → ((over : ℕ) (all : StmtTrees) (ws : List Token) → begins_body ws ≡ true → Parts b.types all ws us
       → depths all ≤ max_nesting - 1 + over → tallest_of_but x.text all ≤ max_nesting + over → Text over (d ws))
       → (line : ℕ) (name : List ℕ) (ts : List Token) → Viable proper x (suc far) Text b d (λ k. xs_body line name) ts
-  xs_body_begins d us fin line name ts = by_word ts (head_is (is_word (codes "dXSARGS")) ts) refl
+  xs_body_begins d us su fin line name ts = by_word ts (head_is (is_word (codes "dXSARGS")) ts) refl
     where
       -- after the first statement
       then_begins : (t u : Token) → IsWord (codes "dXSARGS") t → Is (codes ";") u → (ks : List Token)
           → Viable proper x (suc far) Text b (λ js. d (t ∷ u ∷ js)) (λ k. body_then line name t k) ks
       then_begins t u w c ks =
           finished _ (parts_from_begin Text b x fill.is_variable fill.is_spelt fill.no_form names (max_nesting - 1) inner_begins (suc (length ks))
-          ([] ++ first_statement t ∷ []) (λ js. d (t ∷ u ∷ js)) us
+          ([] ++ first_statement t ∷ []) (λ js. d (t ∷ u ∷ js)) us su
           (λ over all ws q a low. fin over _ (t ∷ u ∷ ws) (and_from (is_word (codes "dXSARGS") t) (is_sign (codes ";") u) w c)
           (s.part (s.stated (s.perl (s.word (args_row t w) c))) q) (omega (arith, a)) (omega (arith, low))) ks (omega arith))
 
@@ -341,11 +342,11 @@ module _ (Text : ℕ → List Token → Type 0) (b : Input) (x : Token) (fill : 
       by_word (t ∷ ks) true e = by_end t ks e (head_is (is_sign (codes ";")) ks) refl
 
   -- after `XS`
-  xs_begins : (t : Token) → IsWord (codes "XS") t → (d : List Token → List Token) (us : List Token)
+  xs_begins : (t : Token) → IsWord (codes "XS") t → (d : List Token → List Token) (us : List Token) → AreSpelt us
       → ((over : ℕ) (one : ItemTree) (ws : List Token) → Item b.types one (t ∷ ws) us → (over ≡ 0 → FitsBut x.text one) → Text over (d ws))
       → (ts : List Token) → Viable proper x (suc far) Text b d (λ k. xs_function t.span.line) ts
   unfolding xs_function
-  xs_begins t w d us fin ts =
+  xs_begins t w d us su fin ts =
       let n = variable_name b.types x fill.is_variable in
       let open' : Token = sign x (codes "(") in
       let end : List Token = sign x (codes "{") ∷ args ∷ first_end us in
@@ -359,19 +360,20 @@ module _ (Text : ℕ → List Token → Type 0) (b : Input) (x : Token) (fill : 
       (fin 0 _ (u ∷ v ∷ sign x (codes ")") ∷ end) (g.xs_function w o n' refl refl begun_so all.stand) (λ e. (omega (arith, all.deep), all.tall)))
       (λ c ms e'' cl. by_expect (codes "{") ms _ end (fin 0 _ (u ∷ v ∷ c ∷ end) (g.xs_function w o n' cl refl begun_so all.stand)
       (λ e. (omega (arith, all.deep), all.tall)))
-      (λ h ns e3 ob. xs_body_begins (λ js. d (u ∷ v ∷ c ∷ h ∷ js)) us
-      (λ over all' ws so q a low. fin over _ (u ∷ v ∷ c ∷ h ∷ ws) (g.xs_function w o n' cl ob so q) (λ e. (omega (arith, a, e), omega (arith, low, e))))
-      t.span.line v.text ns))))
+      (λ h ns e3 ob. xs_body_begins (λ js. d (u ∷ v ∷ c ∷ h ∷ js)) us su
+      (λ over all' ws so q a low. fin over _ (u ∷ v ∷ c ∷ h ∷ ws) (g.xs_function w o n' cl ob so q)
+      (λ e. (omega (arith, a, e), omega (arith, low, e)))) t.span.line v.text ns))))
 
-  pub item_begins : (t : Token) (d : List Token → List Token) (us : List Token)
+  pub item_begins : (t : Token) (d : List Token → List Token) (us : List Token) → AreSpelt us
       → ((over : ℕ) (one : ItemTree) (ws : List Token) → Item b.types one ws us → (over ≡ 0 → FitsBut x.text one) → Text over (d ws))
       → (ts : List Token) → Viable proper x (suc far) Text b d (λ k. item) (t ∷ ts)
   unfolding item sees_word line next
-  item_begins t d us fin ts =
+  item_begins t d us su fin ts =
       by_here (λ k line i. if sees_word (codes "typedef") i then (skip >> named_type line) i
       else (if sees_word (codes "XS") i then (skip >> xs_function line) i else function line i))
       (by_test (sees_word (codes "typedef")) (word_tells b (codes "typedef") (t ∷ ts))
-      (λ w. after_token _ (named_begins Text b x fill t w (λ js. d (t ∷ js)) us (λ over one ws q low. fin over one (t ∷ ws) q low) ts) (λ js' k n good. refl))
+      (λ w. after_token _ (named_begins Text b x fill t w (λ js. d (t ∷ js)) us su (λ over one ws q low. fin over one (t ∷ ws) q low) ts)
+      (λ js' k n good. refl))
       (λ isnt. by_test (sees_word (codes "XS")) (word_tells b (codes "XS") (t ∷ ts))
-      (λ w. after_token _ (xs_begins t w (λ js. d (t ∷ js)) us (λ over one ws q low. fin over one (t ∷ ws) q low) ts) (λ js' k n good. refl))
-      (λ isnt'. function_begins t d us fin ts)))
+      (λ w. after_token _ (xs_begins t w (λ js. d (t ∷ js)) us su (λ over one ws q low. fin over one (t ∷ ws) q low) ts) (λ js' k n good. refl))
+      (λ isnt'. function_begins t d us su fin ts)))

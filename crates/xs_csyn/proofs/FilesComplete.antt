@@ -478,7 +478,7 @@ expr_unique types ts a c names x y =
     same : (i : Input) (a c : ExprTree) → ◌≡◌ {A = Outcome Found} (Ok (found_of a, at i [])) (Ok (found_of c, at i [])) → a ≡ c
     same i a c e = ap (λ (f : Found). f.tree) (same_outcome {E = Fault} (found_of a) (found_of c) (at i []) (at i []) e).0
 
-arguments_shrink : {types : List (List ℕ)} {all : List ExprTree} {ts us : List Token} → ArgumentList types all ts us → length us < length ts
+pub arguments_shrink : {types : List (List ℕ)} {all : List ExprTree} {ts us : List Token} → ArgumentList types all ts us → length us < length ts
 arguments_shrink (s.last_argument x) = whole_shrinks x
 arguments_shrink (s.more_arguments x c y) = omega (arith, whole_shrinks x, arguments_shrink y)
 
@@ -498,7 +498,7 @@ argument_fails : (b : Input) (room n : ℕ) (sofar : List ExprTree) (ts : List T
 unfolding args_from
 argument_fails b room n sofar ts e r = rw r refl
 
-arguments_done : (Any : Type 0) (b : Input) (names : AreNames b.types) (room : ℕ) {all : List ExprTree} {ts us : List Token}
+pub arguments_done : (Any : Type 0) (b : Input) (names : AreNames b.types) (room : ℕ) {all : List ExprTree} {ts us : List Token}
     → ArgumentList b.types all ts us → (heights (exprs_of all) ≤ room) ⊎ Any → Ends us → Stop (codes ",") us → length ts < b.turns → (n : ℕ)
     → length ts ≤ n → (sofar : List ExprTree) → IsRead Any (args_from room n sofar (at b ts)) (sofar ++ all, at b us)
 arguments_done Any b names room (s.last_argument x) h ends stop few zero len sofar = absurd (omega (arith, len, whole_shrinks x))

@@ -48,7 +48,8 @@ form_slots the.KeptNewXs =
     spelt (codes "=") ∷ spelt (codes "newXS_deffile") ∷ spelt (codes "(") ∷ unspelt slot.Text ∷ spelt (codes ",") ∷ unspelt slot.Variable ∷ spelt (codes ")")
     ∷ spelt (codes ";") ∷ []
 form_slots the.NewRecord =
-    spelt (codes "(") ∷ unspelt slot.Variable ∷ spelt (codes ",") ∷ unspelt slot.One ∷ spelt (codes ",") ∷ unspelt slot.Name ∷ spelt (codes ")") ∷ spelt (codes ";") ∷ []
+    spelt (codes "(") ∷ unspelt slot.Variable ∷ spelt (codes ",") ∷ unspelt slot.One ∷ spelt (codes ",") ∷ unspelt slot.Name ∷ spelt (codes ")") ∷ spelt
+    (codes ";") ∷ []
 form_slots the.Unused = spelt (codes "(") ∷ unspelt slot.Variable ∷ spelt (codes ")") ∷ spelt (codes ";") ∷ []
 
 -- the first word of a form is a name, and its slots are these

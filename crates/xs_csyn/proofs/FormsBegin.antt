@@ -7,16 +7,16 @@ use Rattle.std.specs.Prelude.{codes}
 use Rattle.xs_base.specs.Readers.{◌>>=◌, and_then, head_is, pure}
 use Rattle.xs_ctok.specs.declared.token.Literal.{Literal}
 use Rattle.xs_ctok.specs.declared.token.Token.{Token}
-use Rattle.xs_csyn.proofs.Breaks.{Viable, after_token, breaks_at_end, breaks_here, by_expect, by_here, by_name, by_passed, by_variable, by_word, finished, onward, read, retold, step, with_good, MayCome, alike, fewer, other}
-use Rattle.xs_csyn.proofs.ExpressionsBegin.{expr_begins, sign}
+use Rattle.xs_csyn.proofs.Breaks.{MayCome, Viable, after_token, alike, breaks_at_end, breaks_here, by_expect, by_here, by_name, by_passed, by_variable, by_word, fewer, finished, onward, other, read, retold, step, with_good}
+use Rattle.xs_csyn.proofs.ExpressionsBegin.{expr_begins, sign, sign_spelt}
 use Rattle.xs_csyn.proofs.FormRests.{fitting_read, form_first, form_rest, new_xs_rest, text_tells}
 use Rattle.xs_csyn.proofs.FormSlots.{Fitting, all_fit, all_fitting, fitting, one_fits, row_facts, form_slots, spelt, unspelt}
 use Rattle.xs_csyn.proofs.FormsComplete.{int_fits, perl_form_done, spelt_sign, spelt_word, text_fits}
-use Rattle.xs_csyn.proofs.FormsLocal.{row_form, no_form}
+use Rattle.xs_csyn.proofs.FormsLocal.{no_form, row_form}
 use Rattle.xs_csyn.proofs.FormsSound.{begins_by, int_kind, perl_form_yields, text_kind}
 use Rattle.xs_csyn.proofs.Frames.{IsFront, whole_frame}
 use Rattle.xs_csyn.proofs.HoleHeights.{but_low, hole_none}
-use Rattle.xs_csyn.proofs.Local.{Good, NextTells, front_spelt, good_after, proper, turned}
+use Rattle.xs_csyn.proofs.Local.{Good, NextTells, are_cut, are_front, are_join, good_after, proper, turned}
 use Rattle.xs_csyn.proofs.PlainLocal.{an_expr_local, int_tells}
 use Rattle.xs_csyn.proofs.StatementFrames.{Fine, stmt_standing}
 use Rattle.xs_csyn.proofs.StatementsSound.{an_expr_yields}
@@ -59,6 +59,11 @@ NoElse us = head_is (is_word (codes "else")) us ≡ false
 fitting_leads : {types : List (List ℕ)} {ss : List Part} {ts : List Token} → Fitting types ss ts → leads types ss ts ≡ true
 fitting_leads all_fit = refl
 fitting_leads {types} (one_fits {ss = ss} {t = t} {ts = ts} f x more) = rw f (or_right (is_no_operand types t) (leads types ss ts) (fitting_leads more))
+
+-- what fits is spelt as it is to be
+fitting_are : {types : List (List ℕ)} {ss : List Part} {ts : List Token} → Fitting types ss ts → AreSpelt ts
+fitting_are all_fit = tt
+fitting_are (one_fits e a x) = (a, fitting_are x)
 
 -- tokens that lead on and would not with others are fit so far
 leads_front : (types : List (List ℕ)) (x : Token) → IsVariable types x → IsSpelt x → (ss : List Part) (p js us : List Token)
@@ -279,15 +284,26 @@ module _ (Text : ℕ → List Token → Type 0) (b : Input) (x : Token) (vx : Is
 module _ (Text : ℕ → List Token → Type 0) (b : Input) (x : Token) (vx : IsVariable b.types x) (sx : IsSpelt x) where
   -- a form after its first word
   pub form_rest_begins : (which : Form) (t : Token) (slots : List Part) → form_row t ≡ Some (which, slots) → (d : List Token → List Token) (us : List Token)
+      → AreSpelt us
       → NoElse us → ((over : ℕ) (s : StmtTree) (ws : List Token) → Statement b.types s ws us → depth s ≤ 0 + over → tallest_but x.text s ≤ max_nesting + over
       → Text over (d ws))
       → (ts : List Token) → Viable proper x (suc far) Text b (λ js. d (t ∷ js)) (λ k. form_rest which) ts
-  form_rest_begins which t slots row d us ne fin ts =
+  form_rest_begins which t slots row d us su ne fin ts =
       retold (rest_begins (λ over L. Text over (d (t ∷ (L ++ us)))) b x vx sx which (λ js. js)
       (λ L q. let s = form_stands b which t slots L row q in
       fin 0 (tree_stmt.Perl t.span.line s.0) (t ∷ (L ++ us)) (lengthened s.1 us ne) (omega arith) (omega arith)) ts)
-      (λ w front rest more here over text. (more ++ us, subst (λ (l : List Token). Text over (d (t ∷ l))) (regrouped w front more) text))
-      (λ w front rest more long here text. (more ++ us, subst (λ (l : List Token). Text 0 (d (t ∷ l))) (regrouped w front (x ∷ more)) text))
+      (λ w front rest more here over text. (
+        more ++ us,
+        (λ a. are_join proper more us a su),
+        subst (λ (l : List Token). Text over (d (t ∷ l)))
+            (regrouped w front more) text,
+      ))
+      (λ w front rest more long here text. (
+        more ++ us,
+        (λ a. are_join proper more us a su),
+        subst (λ (l : List Token). Text 0 (d (t ∷ l)))
+            (regrouped w front (x ∷ more)) text,
+      ))
     where
       regrouped : (w : List Token → List Token) (front : IsFront w) (more : List Token) → w more ++ us ≡ w (more ++ us)
       regrouped w front more = ap (λ l. l ++ us) (front.is more) ∙ (append_assoc front.before more us ∙ sym (front.is (more ++ us)))
@@ -298,21 +314,22 @@ module _ (Text : ℕ → List Token → Type 0) (b : Input) (x : Token) (vx : Is
   stop = sign x (codes ";")
 
   -- what begins an expression with a `;` after it begins a statement
-  effect_text : form_row x ≡ None → (over : ℕ) (d : List Token → List Token) (us : List Token) → NoElse us
-      → ((over : ℕ) (s : StmtTree) (ws : List Token) → Statement b.types s ws us → depth s ≤ 0 + over → tallest_but x.text s ≤ max_nesting + over
-      → Text over (d ws))
+  effect_text : form_row x ≡ None → (over : ℕ) (d : List Token → List Token) (us : List Token) → AreSpelt us → NoElse us
+      → ((over : ℕ) (s : StmtTree) (ws : List Token) → Statement b.types s ws us → depth s ≤ 0 + over → tallest_but x.text s ≤ max_nesting + over → Text over
+      (d ws))
       → (ts : List Token) → form_at b.types ts ≡ None → AreSpelt ts → (w : List Token → List Token) → IsFront w → (rest more : List Token) → w rest ≡ ts
-      → (a : ExprTree) → Whole b.types a (w more) (stop ∷ us) → height_but x.text a ≤ max_nesting + over → (more : List Token) × Text over (d (w more))
-  effect_text nx over d us ne fin ts none spelt_ts w front rest more here a q low = by (form_at b.types (w more)) refl
+      → (a : ExprTree) → Whole b.types a (w more) (stop ∷ us) → height_but x.text a ≤ max_nesting + over
+      → (js : List Token) × (AreSpelt more → AreSpelt js) × Text over (d (w js))
+  effect_text nx over d us su ne fin ts none spelt_ts w front rest more here a q low = by (form_at b.types (w more)) refl
     where
       all : front.before ++ rest ≡ ts
       all = sym (front.is rest) ∙ here
 
-      as_effect : form_at b.types (w more) ≡ None → (more : List Token) × Text over (d (w more))
-      as_effect n = (more, fin over (tree_stmt.Effect (r.line_of a) a) (w more) (g.effect n q refl) (omega arith) low)
+      as_effect : form_at b.types (w more) ≡ None → (js : List Token) × (AreSpelt more → AreSpelt js) × Text over (d (w js))
+      as_effect n = (more, (λ a. a), fin over (tree_stmt.Effect (r.line_of a) a) (w more) (g.effect n q refl) (omega arith) low)
 
       -- a name alone
-      alone : front.before ≡ [] → (more : List Token) × Text over (d (w more))
+      alone : front.before ≡ [] → (js : List Token) × (AreSpelt more → AreSpelt js) × Text over (d (w js))
       alone e =
           let same : w (x ∷ stop ∷ us) ≡ x ∷ stop ∷ us = front.is (x ∷ stop ∷ us) ∙ ap (λ l. l ++ x ∷ stop ∷ us) e in
           let no_form : form_at b.types (x ∷ stop ∷ us) ≡ None = rw nx refl in
@@ -321,6 +338,7 @@ module _ (Text : ℕ → List Token → Type 0) (b : Input) (x : Token) (vx : Is
           r.is_choice (r.is_binary (r.is_unary (r.is_operand (r.is_primary (r.name vx))))) in
           let one : Statement b.types (tree_stmt.Effect x.span.line name) (x ∷ stop ∷ us) us = g.effect no_form read_name refl in (
             x ∷ stop ∷ us,
+            (λ a. (sx, (sign_spelt x (codes ";") refl, su))),
             fin over (tree_stmt.Effect x.span.line name) (w (x ∷ stop ∷ us))
                 (subst (λ (l : List Token). Statement b.types (tree_stmt.Effect x.span.line name) l us) (sym same) one) (omega arith)
                 (omega (arith, hole_none x)),
@@ -329,7 +347,7 @@ module _ (Text : ℕ → List Token → Type 0) (b : Input) (x : Token) (vx : Is
       -- the words of a form
       as_form : (c : Token) (p : List Token) → front.before ≡ c ∷ p → (row : Form × List Part) → form_row c ≡ Some row
           → (is_type b.types c || leads b.types row.1 (p ++ more)) ≡ true → (is_type b.types c || leads b.types row.1 (p ++ rest)) ≡ false
-          → AreSpelt p → (more : List Token) × Text over (d (w more))
+          → AreSpelt p → (js : List Token) × (AreSpelt more → AreSpelt js) × Text over (d (w js))
       as_form c p e row f led_on isnt a =
           let none = or_parts (is_type b.types c) (leads b.types row.1 (p ++ rest)) isnt in
           let led : leads b.types row.1 (p ++ more) ≡ true = rw (← led_on, none.0) refl in
@@ -340,12 +358,13 @@ module _ (Text : ℕ → List Token → Type 0) (b : Input) (x : Token) (vx : Is
           let same : (c ∷ (p ++ m.0)) ++ us ≡ w (m.0 ++ us) =
           append_assoc (c ∷ p) m.0 us ∙ (ap (λ l. l ++ (m.0 ++ us)) (sym e) ∙ sym (front.is (m.0 ++ us))) in (
             m.0 ++ us,
+            (λ more_are. are_join proper m.0 us (are_cut p m.0 (fitting_are m.1)) su),
             fin over (tree_stmt.Perl c.span.line s.0) (w (m.0 ++ us))
                 (subst (λ (l : List Token). Statement b.types (tree_stmt.Perl c.span.line s.0) l us) same one) (omega arith) (omega arith),
           )
 
       by_row : (c : Token) (p : List Token) → front.before ≡ c ∷ p → (o : Option (Form × List Part)) → form_row c ≡ o
-          → (which : Form) → form_at b.types (w more) ≡ Some which → (more : List Token) × Text over (d (w more))
+          → (which : Form) → form_at b.types (w more) ≡ Some which → (js : List Token) × (AreSpelt more → AreSpelt js) × Text over (d (w js))
       by_row c p e None f which is =
           let same : form_at b.types (w more) ≡ form_at b.types (c ∷ (p ++ more)) = ap (form_at b.types) (front.is more ∙ ap (λ l. l ++ more) e) in
           let wrong : ◌≡◌ {A = Option Form} None (Some which) = sym (rw f refl) ∙ (sym same ∙ is) in
@@ -357,7 +376,7 @@ module _ (Text : ℕ → List Token → Type 0) (b : Input) (x : Token) (vx : Is
           (sym (row_form b.types c (p ++ more) row f) ∙ (ap (form_at b.types) (sym here_is) ∙ is)) in
           let isnt = none_row (is_type b.types c || leads b.types row.1 (p ++ rest)) row.0
           (sym (row_form b.types c (p ++ rest) row f) ∙ (ap (form_at b.types) there_is ∙ none)) in
-          as_form c p e row f led_on isnt (front_spelt p rest (subst AreSpelt (sym there_is) spelt_ts).1)
+          as_form c p e row f led_on isnt (are_front proper p rest (subst AreSpelt (sym there_is) spelt_ts).1)
         where
           some_row : (k : Bool) (one two : Form) → (◌≡◌ {A = Option Form} (if k then Some one else None) (Some two)) → k ≡ true
           some_row true one two e = refl
@@ -368,44 +387,46 @@ module _ (Text : ℕ → List Token → Type 0) (b : Input) (x : Token) (vx : Is
           none_row true one e = absurd cc
 
       by_before : (before : List Token) → front.before ≡ before → (which : Form) → form_at b.types (w more) ≡ Some which
-          → (more : List Token) × Text over (d (w more))
+          → (js : List Token) × (AreSpelt more → AreSpelt js) × Text over (d (w js))
       by_before [] e which is = alone e
       by_before (c ∷ p) e which is = by_row c p e (form_row c) refl which is
 
-      by : (o : Option Form) → form_at b.types (w more) ≡ o → (more : List Token) × Text over (d (w more))
+      by : (o : Option Form) → form_at b.types (w more) ≡ o → (js : List Token) × (AreSpelt more → AreSpelt js) × Text over (d (w js))
       by None n = as_effect n
       by (Some which) is = by_before front.before refl which is
 
   -- the same of a name that would be too deep, after more tokens than a form has
-  effect_name : (d : List Token → List Token) (us : List Token)
+  effect_name : (d : List Token → List Token) (us : List Token) → AreSpelt us
       → ((over : ℕ) (s : StmtTree) (ws : List Token) → Statement b.types s ws us → depth s ≤ 0 + over → tallest_but x.text s ≤ max_nesting + over
       → Text over (d ws))
       → (ts : List Token) → form_at b.types ts ≡ None → (w : List Token → List Token) (f : IsFront w) (rest more : List Token) → suc far ≤ length f.before
       → w rest ≡ ts → (a : ExprTree) → Whole b.types a (w (x ∷ more)) (stop ∷ us) → height_but x.text a ≤ max_nesting + 0
-      → (js : List Token) × Text 0 (d (w (x ∷ js)))
-  effect_name d us fin ts none w f rest more long here a q low =
+      → (js : List Token) × (AreSpelt more → AreSpelt js) × Text 0 (d (w (x ∷ js)))
+  effect_name d us su fin ts none w f rest more long here a q low =
       let still : form_at b.types (w (x ∷ more)) ≡ None = form_front b.types f (x ∷ more) rest long ∙ (ap (form_at b.types) here ∙ none) in
-      (more, fin 0 (tree_stmt.Effect (r.line_of a) a) (w (x ∷ more)) (g.effect still q refl) (omega arith) low)
+      (more, (λ a. a), fin 0 (tree_stmt.Effect (r.line_of a) a) (w (x ∷ more)) (g.effect still q refl) (omega arith) low)
 
-  pub an_expr_begins : (d : List Token → List Token) (us : List Token)
+  pub an_expr_begins : (d : List Token → List Token) (us : List Token) → AreSpelt us
       → ((over : ℕ) (a : ExprTree) (ws : List Token) → Whole b.types a ws us → height_but x.text a ≤ max_nesting + over → Text over (d ws))
       → (ts : List Token) → Viable proper x (suc far) Text b d (λ k. an_expr) ts
   unfolding an_expr
-  an_expr_begins d us fin ts = finished _ (fewer (omega arith) (expr_begins Text b x vx max_nesting level.Whole d us fin ts))
+  an_expr_begins d us su fin ts = finished _ (fewer (omega arith) (expr_begins Text b x vx (sx, tt) max_nesting level.Whole d us su fin ts))
 
 module _ (Text : ℕ → List Token → Type 0) (b : Input) (x : Token) (vx : IsVariable b.types x) (sx : IsSpelt x) (nx : form_row x ≡ None) where
-  pub effect_begins : (d : List Token → List Token) (us : List Token) → NoElse us
-      → ((over : ℕ) (s : StmtTree) (ws : List Token) → Statement b.types s ws us → depth s ≤ 0 + over → tallest_but x.text s ≤ max_nesting + over
-      → Text over (d ws))
+  pub effect_begins : (d : List Token → List Token) (us : List Token) → AreSpelt us → NoElse us
+      → ((over : ℕ) (s : StmtTree) (ws : List Token) → Statement b.types s ws us → depth s ≤ 0 + over → tallest_but x.text s ≤ max_nesting + over → Text over
+      (d ws))
       → (ts : List Token) → form_at b.types ts ≡ None → Viable proper x (suc far) Text b d (λ k. effect) ts
   unfolding effect
-  effect_begins d us ne fin ts none = with_good (λ good.
+  effect_begins d us su ne fin ts none = with_good (λ good.
       by_here (λ k line. an_expr >>= λ a. expect (codes ";") >>= λ u. pure (tree_stmt.Effect line a)) (step (an_expr_local b ts) (an_expr_yields b ts)
       (retold (an_expr_begins (λ over ws. (a : ExprTree) × Whole b.types a ws (sign x (codes ";") ∷ us) × (height_but x.text a ≤ max_nesting + over)) b x vx
-      sx (λ js. js) (sign x (codes ";") ∷ us) (λ over a ws q low. (a, q, low)) ts)
-      (λ w front rest more here over y. effect_text Text b x vx sx nx over d us ne fin ts none good.1 w front rest more here y.0 y.1 y.2)
-      (λ w front rest more long here y. effect_name Text b x vx sx d us fin ts none w front rest more long here y.0 y.1 y.2))
+      sx (λ js. js) (sign x (codes ";") ∷ us) (sign_spelt x (codes ";") refl, su)
+      (λ over a ws q low. (a, q, low)) ts)
+      (λ w front rest more here over y. effect_text Text b x vx sx nx over d us su ne fin ts none good.1 w front rest more here y.0 y.1 y.2)
+      (λ w front rest more long here y. effect_name Text b x vx sx d us su fin ts none w front rest more long here y.0 y.1 y.2))
       (λ a ks q. let h = whole_frame q.0 in
-      let z = effect_text Text b x vx sx nx 0 d us ne fin ts none good.1 h.w h.front ks (sign x (codes ";") ∷ us) h.here a (h.moves (sign x (codes ";") ∷ us))
+      let z = effect_text Text b x vx sx nx 0 d us su ne fin ts none good.1 h.w h.front ks (sign x (codes ";") ∷ us) h.here a
+      (h.moves (sign x (codes ";") ∷ us))
       (omega (arith, but_low x.text a, q.1)) in
-      onward h (by_expect (codes ";") ks _ z.0 z.1 (λ u ls e is. read refl)))))
+      onward h (by_expect (codes ";") ks _ z.0 z.2 (λ u ls e is. read refl)))))

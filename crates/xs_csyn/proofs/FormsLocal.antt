@@ -7,7 +7,7 @@ use Rattle.xs_csyn.proofs.FormRests.{form_first, form_not_there, form_rest, not_
 use Rattle.xs_csyn.proofs.FormSlots.{Going, Row, leads_ways, row_facts, form_slots, variable_of, word_spelt}
 use Rattle.xs_csyn.proofs.FormsSound.{begins_by}
 use Rattle.xs_csyn.proofs.FormWords.{as_whole, end_spelt, ending, form_done, plain_read}
-use Rattle.xs_csyn.proofs.Local.{Local, after_one, alike, alike_there, comes_to, front_spelt, proper, turned}
+use Rattle.xs_csyn.proofs.Local.{Local, after_one, alike, alike_there, are_front, comes_to, proper, turned}
 use Rattle.xs_csyn.specs.FaultPlaces.{SameNext}
 use Rattle.xs_csyn.proofs.Marks.{variable_name}
 use Rattle.xs_csyn.proofs.PlainLocal.{plain_local}
@@ -189,7 +189,7 @@ module _ (b : Input) (names : AreNames b.types) where
               ap (λ l. form_at b.types (l ++ us)) front_is
               ∙ (row_form b.types t (front ++ us) row e ∙ rw (isnt, same ∙ (ap (leads b.types row.1) (sym more_is) ∙ led)) refl)
           by (inr going) =
-              absurd (passes_on x front front_is (front_spelt front us a'.1) (subst (λ (ss : List Part). Going b.types ss front x.rest) facts.slots going))
+              absurd (passes_on x front front_is (are_front proper front us a'.1) (subst (λ (ss : List Part). Going b.types ss front x.rest) facts.slots going))
 
   -- no form, by the tokens after its first word
   unled_local : (t : Token) (ts : List Token) (row : Form × List Part) → form_row t ≡ Some row → is_type b.types t ≡ false → leads b.types row.1 ts ≡ false

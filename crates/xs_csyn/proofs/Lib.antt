@@ -30,6 +30,7 @@ pub mod Frames
 pub mod Breaks
 pub mod ExpressionsBegin
 pub mod ExpressionPlaces
+pub mod ArgumentPlaces
 pub mod StatementFrames
 pub mod FormsBegin
 pub mod StatementsBegin

@@ -26,6 +26,31 @@ are_tail : (s : Meant) (t : Token) (ts : List Token) → Are s (t ∷ ts) → Ar
 are_tail any t ts a = tt
 are_tail proper t ts a = a.1
 
+pub are_more : (s : Meant) (t : Token) (ts : List Token) → Are s (t ∷ []) → Are s ts → Are s (t ∷ ts)
+are_more any t ts a as' = tt
+are_more proper t ts a as' = (a.0, as')
+
+-- what comes after a token may be exchanged
+pub are_after : (s : Meant) (xs : List Token) (t : Token) (us vs : List Token) → Are s (xs ++ t ∷ us) → Are s vs → Are s (xs ++ t ∷ vs)
+are_after any xs t us vs a a' = tt
+are_after proper [] t us vs a a' = (a.0, a')
+are_after proper (u ∷ xs) t us vs a a' = (a.0, are_after proper xs t us vs a.1 a')
+
+-- what stands in front, and what comes after it
+pub are_front : (s : Meant) (xs ys : List Token) → Are s (xs ++ ys) → Are s xs
+are_front any xs ys a = tt
+are_front proper [] ys a = tt
+are_front proper (t ∷ xs) ys a = (a.0, are_front proper xs ys a.1)
+
+pub are_join : (s : Meant) (xs ys : List Token) → Are s xs → Are s ys → Are s (xs ++ ys)
+are_join any xs ys a a' = tt
+are_join proper [] ys a a' = a'
+are_join proper (t ∷ xs) ys a a' = (a.0, are_join proper xs ys a.1 a')
+
+pub are_cut : (xs ys : List Token) → AreSpelt (xs ++ ys) → AreSpelt ys
+are_cut [] ys a = a
+are_cut (t ∷ xs) ys a = are_cut xs ys a.1
+
 -- they are so, and there are turns enough for them
 abbrev pub Good : Meant → ℕ → List Token → Type 0
 Good s k ts = (length ts < k) × Are s ts
@@ -56,11 +81,6 @@ next_stays (t ∷ front) rest us e = refl
 pub good_after : (s : Meant) (front us : List Token) (k : ℕ) → Good s k (front ++ us) → Good s k us
 good_after s [] us k g = g
 good_after s (t ∷ front) us k g = good_after s front us k (omega (arith, g.0), are_tail s t (front ++ us) g.1)
-
--- what stands in front is spelt so too
-pub front_spelt : (xs ys : List Token) → AreSpelt (xs ++ ys) → AreSpelt xs
-front_spelt [] ys a = tt
-front_spelt (z ∷ xs) ys a = (a.0, front_spelt xs ys a.1)
 
 length_after : (front rest : List Token) → length rest ≤ length (front ++ rest)
 length_after [] rest = omega arith

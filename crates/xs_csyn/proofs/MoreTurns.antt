@@ -1,4 +1,5 @@
 -- Further turns of the loops change nothing.
+use Rattle.xs_cexpr.specs.ExpressionTree.{ExprTree}
 use Rattle.std.proofs.Common.{◌≡◌, ℕ, zero, suc, ◌+◌, ◌<◌, Bool, true, false, if◌then◌else◌, ◌||◌, List, [], ◌∷◌, ◌++◌, length, Ok, Err, refl, ap, sym, ◌∙◌, arith}
 use Rattle.std.specs.Prelude.{codes}
 use Rattle.xs_base.specs.Readers.{◌>>=◌, and_then, head_is}
@@ -9,7 +10,7 @@ use Rattle.xs_csyn.proofs.Sizes.{declarator_shrinks, item_shrinks, label_shrinks
 use Rattle.xs_csyn.proofs.StatementsSound.{declarator_yields, group_shrinks, group_yields, label_yields, part_yields, stmt_yields}
 use Rattle.xs_csyn.proofs.Yields.{Yields, at}
 use Rattle.xs_cexpr.specs.ExpressionReader.{FoundAll, expr, list_from, with_node}
-use Rattle.xs_csyn.specs.FileReader.{fields_from, item, items_from, parameters_from, rest_from, with_types_of}
+use Rattle.xs_csyn.specs.FileReader.{args_from, fields_from, item, items_from, parameters_from, rest_from, with_types_of}
 use Rattle.xs_csyn.specs.Laws.{TurnsLaw}
 use Rattle.xs_cstmt.specs.StatementReader.{body_from, declarators_from, group, groups_from, labels_from, last_leaves, part, parts_from, sees_label, stmt}
 use Rattle.xs_cstmt.specs.StatementTree.{DeclaratorTree, GroupTree, StmtTree}
@@ -157,6 +158,17 @@ module _ (b : Input) where
       (and_then (part (stmt room) (at b ts)) (λ one. rest_from (stmt room) m (sofar ++ one ∷ [])))
       (λ isnt. same_after _ _ _ (part_yields b (stmt room) room (stmt_yields b room) ts)
       (λ one us x. rest_same room n m (sofar ++ one ∷ []) us (omega (arith, h, part_shrinks x.0)) (omega (arith, g, part_shrinks x.0))))
+
+  pub args_same : (room n m : ℕ) (sofar : List ExprTree) (ts : List Token) → length ts < n → length ts < m
+      → args_from room n sofar (at b ts) ≡ args_from room m sofar (at b ts)
+  unfolding args_from
+  args_same room zero m sofar ts h g = absurd (omega (arith, h))
+  args_same room (suc n) zero sofar ts h g = absurd (omega (arith, g))
+  args_same room (suc n) (suc m) sofar ts h g =
+      same_after _ _ _ (expr_yields b room level.Whole ts) (λ one us x. same_eat b (codes ",") us _ _ _ _
+      (λ vs less. args_same room n m (sofar ++ one.tree ∷ []) vs (omega (arith, h, less, whole_shrinks x.stands))
+      (omega (arith, g, less, whole_shrinks x.stands)))
+      (λ isnt. refl))
 
 pub items_same : (n m : ℕ) (b : Input) (sofar : List ItemTree) (ts : List Token) → length ts < n → length ts < m
     → items_from n sofar (at b ts) ≡ items_from m sofar (at b ts)

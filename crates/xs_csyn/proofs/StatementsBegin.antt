@@ -8,13 +8,13 @@ use Rattle.xs_base.specs.Readers.{◌>>=◌, ◌>>◌, and_then, head_is, pure}
 use Rattle.xs_base.specs.declared.fault.Fault.{Fault}
 use Rattle.xs_ctok.specs.declared.token.Token.{Token}
 use Rattle.xs_csyn.proofs.Breaks.{Viable, after_token, alike_viable, as_local, breaks_at_end, by_eat, by_expect, by_here, by_option, by_test, by_variable, by_variable_here, by_word_here, finished, less_of, onward, read, same_fault, step}
-use Rattle.xs_csyn.proofs.ExpressionsBegin.{int_is, sign, stars_viable, type_after_begins, type_after_yields, type_name_begins, word}
+use Rattle.xs_csyn.proofs.ExpressionsBegin.{int_is, sign, stars_viable, type_after_begins, type_after_yields, type_name_begins, sign_spelt, word_spelt, word}
 use Rattle.xs_csyn.proofs.ExpressionsComplete.{type_name_first}
 use Rattle.xs_csyn.proofs.ExpressionsSound.{stars_yields, type_name_yields}
 use Rattle.xs_csyn.proofs.FilesComplete.{type_no_word}
 use Rattle.xs_csyn.proofs.FormSlots.{row_facts, form_slots}
 use Rattle.xs_csyn.proofs.FormRests.{form_first, form_rest}
-use Rattle.xs_csyn.proofs.FormsBegin.{NoElse, an_expr_begins, effect_begins, form_rest_begins, good_tail, far, form_may, leads_may, row_short}
+use Rattle.xs_csyn.proofs.FormsBegin.{NoElse, an_expr_begins, effect_begins, far, form_may, form_rest_begins, good_tail, leads_may, row_short}
 use Rattle.xs_csyn.proofs.FormsLocal.{form_read, led_still, no_form, plain_here, row_form, unled_still}
 use Rattle.xs_csyn.proofs.FormsSound.{begins_by, int_kind}
 use Rattle.xs_csyn.proofs.Frames.{IsFront, front_one, stars_frame, type_name_frame, type_rest_frame, whole_frame}
@@ -162,116 +162,118 @@ module _ (Text : ℕ → List Token → Type 0) (b : Input) (x : Token) (vx : Is
   abbrev stop : Token
   stop = sign x (codes ";")
 
-  until_begins : (m : List ℕ) → Is m (sign x m) → (d : List Token → List Token) (us : List Token)
+  until_begins : (m : List ℕ) → Is m (sign x m) → is_wordlike m ≡ false → (d : List Token → List Token) (us : List Token) → AreSpelt us
       → ((over : ℕ) (v : Option ExprTree) (ws : List Token) → Until b.types m v ws us → option_height_but x.text v ≤ max_nesting + over → Text over (d ws))
       → (ts : List Token)
       → Viable proper x (suc far) Text b d (λ k. until m) ts
   unfolding until
-  until_begins m self d us fin ts =
+  until_begins m self wordless d us su fin ts =
       by_eat m ts (λ u ks e is. read refl)
       (step (an_expr_local b ts) (an_expr_yields b ts) (an_expr_begins Text b x vx sx d (sign x m ∷ us)
+      (sign_spelt x m wordless, su)
       (λ over a ws q low. fin over (Some a) ws (g.something q self) low) ts)
       (λ a ks y. let h = whole_frame y.0 in onward h (by_expect m ks _ (sign x m ∷ us)
       (fin 0 (Some a) (h.w (sign x m ∷ us)) (g.something (h.moves (sign x m ∷ us)) self) (omega (arith, but_low x.text a, y.1))) (λ u ls e is. read refl))))
 
-  first_value_begins : (d : List Token → List Token) (us : List Token)
+  first_value_begins : (d : List Token → List Token) (us : List Token) → AreSpelt us
       → ((over : ℕ) (v : Option ExprTree) (ws : List Token) → Value b.types v ws us → option_height_but x.text v ≤ max_nesting + over → Text over (d ws))
       → (ts : List Token) → Viable proper x (suc far) Text b d (λ k. first_value) ts
   unfolding first_value
-  first_value_begins d us fin ts =
+  first_value_begins d us su fin ts =
       by_eat (codes "=") ts
-      (λ u ks e is. finished _ (an_expr_begins Text b x vx sx (λ js. d (u ∷ js)) us (λ over a ws q low. fin over (Some a) (u ∷ ws) (g.value is q) low) ks))
+      (λ u ks e is. finished _ (an_expr_begins Text b x vx sx (λ js. d (u ∷ js)) us su (λ over a ws q low. fin over (Some a) (u ∷ ws) (g.value is q) low) ks))
       (read refl)
 
-  declarator_begins : (d : List Token → List Token) (us : List Token)
+  declarator_begins : (d : List Token → List Token) (us : List Token) → AreSpelt us
       → ((over : ℕ) (one : DeclaratorTree) (ws : List Token) → Declarator b.types one ws us → option_height_but x.text one.value ≤ max_nesting + over
       → Text over (d ws))
       → (ts : List Token) → Viable proper x (suc far) Text b d (λ k. declarator) ts
   unfolding declarator
-  declarator_begins d us fin ts =
+  declarator_begins d us su fin ts =
       step (stars_local b ts) (stars_yields b ts) (stars_viable ts)
       (λ n ks s. let f = stars_frame s in
       onward f (by_here (λ k line. declarator_then line n) (by_variable ks _ (x ∷ us)
       (fin 0 _ (f.w (x ∷ us)) (g.declarator (f.moves (x ∷ us)) vx g.no_value) (omega arith))
-      (λ u ls e v. finished _ (first_value_begins (λ js. d (f.w (u ∷ js))) us
+      (λ u ls e v. finished _ (first_value_begins (λ js. d (f.w (u ∷ js))) us su
       (λ over value ws q low. fin over _ (f.w (u ∷ ws)) (g.declarator (f.moves (u ∷ ws)) v q) low) ls)))))
 
-  names_begin : (n : ℕ) (sofar : List DeclaratorTree) (d : List Token → List Token) (us : List Token)
+  names_begin : (n : ℕ) (sofar : List DeclaratorTree) (d : List Token → List Token) (us : List Token) → AreSpelt us
       → ((over : ℕ) (all : List DeclaratorTree) (ws : List Token) → Declarators b.types all ws us → tallest_value_but x.text all ≤ max_nesting + over
       → Text over (d ws))
       → (ts : List Token) → length ts < n → Viable proper x (suc far) Text b d (λ k. declarators_from k sofar) ts
   unfolding declarators_from
-  names_begin zero sofar d us fin ts len = absurd (omega (arith, len))
-  names_begin (suc n) sofar d us fin ts len =
+  names_begin zero sofar d us su fin ts len = absurd (omega (arith, len))
+  names_begin (suc n) sofar d us su fin ts len =
       alike_viable {p = λ k. declarators_from (suc k) sofar} (step (declarator_local b ts) (declarator_yields b ts)
-      (declarator_begins d us (λ over one ws q low. fin over (one ∷ []) ws (g.last_name q) (omega (arith, low))) ts)
+      (declarator_begins d us su (λ over one ws q low. fin over (one ∷ []) ws (g.last_name q) (omega (arith, low))) ts)
       (λ one ks y. let h = declarator_frame y.0 in
       onward h (by_eat (codes ",") ks
-      (λ u ls e is. names_begin n (sofar ++ one ∷ []) (λ js. d (h.w (u ∷ js))) us
+      (λ u ls e is. names_begin n (sofar ++ one ∷ []) (λ js. d (h.w (u ∷ js))) us su
       (λ over all ws q low. fin over (one ∷ all) (h.w (u ∷ ws)) (g.more_names (h.moves (u ∷ ws)) is q)
       (omega (arith, low, option_low x.text one.value, y.1))) ls
       (omega (arith, len, less_of e, declarator_shrinks y.0))) (read refl))))
       (λ us k e g. names_same (turned b k us) k (suc k) sofar us g.0 (omega (arith, g.0)))
 
-  all_names_begin : (d : List Token → List Token) (us : List Token)
+  all_names_begin : (d : List Token → List Token) (us : List Token) → AreSpelt us
       → ((over : ℕ) (all : List DeclaratorTree) (ws : List Token) → Declarators b.types all ws us → tallest_value_but x.text all ≤ max_nesting + over
       → Text over (d ws))
       → (ts : List Token) → Viable proper x (suc far) Text b d (λ k. declarators) ts
   unfolding declarators
-  all_names_begin d us fin ts =
-      alike_viable {p = λ k. declarators_from k []} (names_begin (suc (length ts)) [] d us fin ts (omega arith)) (λ us k e g. refl)
+  all_names_begin d us su fin ts =
+      alike_viable {p = λ k. declarators_from k []} (names_begin (suc (length ts)) [] d us su fin ts (omega arith)) (λ us k e g. refl)
 
   -- after the name of the type
   names_then_begin : (line : ℕ) (base : List ℕ) (w : List Token → List Token) → ((js : List Token) → TypeName b.types base (w js) js)
-      → (d : List Token → List Token) (us : List Token) → ((over : ℕ) (one : DeclaredTree) (ws : List Token) → Declared b.types one ws us
+      → (d : List Token → List Token) (us : List Token) → AreSpelt us → ((over : ℕ) (one : DeclaredTree) (ws : List Token) → Declared b.types one ws us
       → tallest_value_but x.text one.names ≤ max_nesting + over → Text over (d ws))
       → (ts : List Token) → Viable proper x (suc far) Text b (λ js. d (w js)) (λ k. names_then line base) ts
-  names_then_begin line base w moves d us fin ts =
+  names_then_begin line base w moves d us su fin ts =
       step (declarators_local b ts) (declarators_yield b ts) (all_names_begin (λ js. d (w js)) (stop ∷ us)
+      (sign_spelt x (codes ";") refl, su)
       (λ over all ws p low. let one = declared_of (moves ws) p refl in fin over one.0 (w ws) one.1 (declared_low x.text one.0 all one.2 low)) ts)
       (λ all ls y. let h = declarators_frame y.0 in onward h (by_expect (codes ";") ls _ (stop ∷ us)
       (let one = declared_of (moves (h.w (stop ∷ us))) (h.moves (stop ∷ us)) refl in
       fin 0 one.0 (w (h.w (stop ∷ us))) one.1 (declared_low x.text one.0 all one.2 (omega (arith, values_low x.text all, y.1)))) (λ u ms e is. read refl)))
 
-  pub declaration_begins : (d : List Token → List Token) (us : List Token)
-      → ((over : ℕ) (one : DeclaredTree) (ws : List Token) → Declared b.types one ws us → tallest_value_but x.text one.names ≤ max_nesting + over
-      → Text over (d ws))
+  pub declaration_begins : (d : List Token → List Token) (us : List Token) → AreSpelt us
+      → ((over : ℕ) (one : DeclaredTree) (ws : List Token) → Declared b.types one ws us → tallest_value_but x.text one.names ≤ max_nesting + over → Text over
+      (d ws))
       → (ts : List Token) → Viable proper x (suc far) Text b d (λ k. declaration) ts
   unfolding declaration
-  declaration_begins d us fin ts =
+  declaration_begins d us su fin ts =
       by_here (λ k line. type_name >>= names_then line) (step (type_name_local b ts) (type_name_yields b ts)
       (type_name_begins Text b x d (x ∷ stop ∷ us) (λ name ws q. let one = declared_of q (one_name b.types x vx (stop ∷ us)) refl in
       fin 0 one.0 ws one.1 (declared_low x.text one.0 (name_alone x ∷ []) one.2 (omega arith))) ts)
-      (λ base ks q. let f = type_name_frame q in onward f (names_then_begin (line_at b.last ts) base f.w f.moves d us fin ks)))
+      (λ base ks q. let f = type_name_frame q in onward f (names_then_begin (line_at b.last ts) base f.w f.moves d us su fin ks)))
 
   -- a declaration after its first word
-  pub declaration_after_begins : (t : Token) → is_type b.types t ≡ true → (d : List Token → List Token) (us : List Token)
-      → ((over : ℕ) (one : DeclaredTree) (ws : List Token) → Declared b.types one ws us → tallest_value_but x.text one.names ≤ max_nesting + over
-      → Text over (d ws))
+  pub declaration_after_begins : (t : Token) → is_type b.types t ≡ true → (d : List Token → List Token) (us : List Token) → AreSpelt us
+      → ((over : ℕ) (one : DeclaredTree) (ws : List Token) → Declared b.types one ws us → tallest_value_but x.text one.names ≤ max_nesting + over → Text over
+      (d ws))
       → (ts : List Token) → Viable proper x (suc far) Text b (λ js. d (t ∷ js)) (λ k. declaration_after t.span.line t.text) ts
-  declaration_after_begins t is d us fin ts =
+  declaration_after_begins t is d us su fin ts =
       step (type_after_local b t.text ts) (type_after_yields b t is ts)
       (type_after_begins Text b x t is d (x ∷ stop ∷ us)
       (λ name ws q. let one = declared_of q (one_name b.types x vx (stop ∷ us)) refl in
       fin 0 one.0 ws one.1 (declared_low x.text one.0 (name_alone x ∷ []) one.2 (omega arith))) ts)
-      (λ base ks q. let f = type_rest_frame q in onward f (names_then_begin t.span.line base (λ js. t ∷ f.w js) f.moves d us fin ks))
+      (λ base ks q. let f = type_rest_frame q in onward f (names_then_begin t.span.line base (λ js. t ∷ f.w js) f.moves d us su fin ks))
 
   -- ---- statements in which no other stands
 
-  plain_begins : (d : List Token → List Token) (us : List Token) → NoElse us
-      → ((over : ℕ) (s : StmtTree) (ws : List Token) → Statement b.types s ws us → depth s ≤ 0 + over → tallest_but x.text s ≤ max_nesting + over
-      → Text over (d ws))
+  plain_begins : (d : List Token → List Token) (us : List Token) → AreSpelt us → NoElse us
+      → ((over : ℕ) (s : StmtTree) (ws : List Token) → Statement b.types s ws us → depth s ≤ 0 + over → tallest_but x.text s ≤ max_nesting + over → Text over
+      (d ws))
       → (ts : List Token) → form_at b.types ts ≡ None → Viable proper x (suc far) Text b d (λ k. plain) ts
   unfolding plain sees sees_word empty returned jump line next
-  plain_begins d us ne fin [] none = alike_viable (effect_begins Text b x vx sx nx d us ne fin [] none) (λ us k n g. at_end us k n)
+  plain_begins d us su ne fin [] none = alike_viable (effect_begins Text b x vx sx nx d us su ne fin [] none) (λ us k n g. at_end us k n)
     where
       at_end : (us : List Token) (k : ℕ) → SameNext [] us → plain (turned b k us) ≡ effect (turned b k us)
       at_end [] k n = refl
       at_end (u ∷ us) k n = absurd n
-  plain_begins d us ne fin (t ∷ ts) none =
+  plain_begins d us su ne fin (t ∷ ts) none =
       by_test (sees (codes ";")) (sees_tells b (codes ";") (t ∷ ts)) (λ is. read refl)
       (λ isnt. by_test (sees_word (codes "return")) (word_tells b (codes "return") (t ∷ ts))
-      (λ w. after_token _ (finished _ (until_begins (codes ";") refl (λ js. d (t ∷ js)) us
+      (λ w. after_token _ (finished _ (until_begins (codes ";") refl refl (λ js. d (t ∷ js)) us su
       (λ over v ws q low. fin over (tree_stmt.Return t.span.line v) (t ∷ ws)
       (g.a_return w q) (omega arith) low) ts)) (λ js' k n good. refl))
       (λ isnt'. by_test (sees_word (codes "break")) (word_tells b (codes "break") (t ∷ ts))
@@ -282,28 +284,28 @@ module _ (Text : ℕ → List Token → Type 0) (b : Input) (x : Token) (vx : Is
       (λ w. after_token _ (by_expect (codes ";") ts _ (stop ∷ us)
       (fin 0 (tree_stmt.Continue t.span.line) (t ∷ stop ∷ us) (g.a_continue w refl) (omega arith) (omega arith))
       (λ u ks e is. read refl)) (λ js' k n good. refl))
-      (λ other. effect_begins Text b x vx sx nx d us ne fin (t ∷ ts) none))))
+      (λ other. effect_begins Text b x vx sx nx d us su ne fin (t ∷ ts) none))))
 
   -- a form by its first word
-  typed_begins : (d : List Token → List Token) (us : List Token) → NoElse us
-      → ((over : ℕ) (s : StmtTree) (ws : List Token) → Statement b.types s ws us → depth s ≤ 0 + over → tallest_but x.text s ≤ max_nesting + over
-      → Text over (d ws))
+  typed_begins : (d : List Token → List Token) (us : List Token) → AreSpelt us → NoElse us
+      → ((over : ℕ) (s : StmtTree) (ws : List Token) → Statement b.types s ws us → depth s ≤ 0 + over → tallest_but x.text s ≤ max_nesting + over → Text over
+      (d ws))
       → (t : Token) (ts : List Token) (row : Form × List perl_forms.Part) → form_row t ≡ Some row → is_type b.types t ≡ true
       → Viable proper x (suc far) Text b d (λ k. simple) (t ∷ ts)
-  typed_begins d us ne fin t ts row e is =
-      after_token t (finished (λ p i. (tree_stmt.Perl t.span.line p, i)) (form_rest_begins Text b x vx sx row.0 t row.1 e d us ne fin ts))
+  typed_begins d us su ne fin t ts row e is =
+      after_token t (finished (λ p i. (tree_stmt.Perl t.span.line p, i)) (form_rest_begins Text b x vx sx row.0 t row.1 e d us su ne fin ts))
       (λ js k n good. let y = begins_by t row e in form_read b k t js row.0 (row_form b.types t js row e ∙ rw is refl)
       (form_first b row.0 t js k y.is_a_word y.spelt))
 
   -- a form by the tokens after its first word
-  led_begins : AreNames b.types → (d : List Token → List Token) (us : List Token) → NoElse us
-      → ((over : ℕ) (s : StmtTree) (ws : List Token) → Statement b.types s ws us → depth s ≤ 0 + over → tallest_but x.text s ≤ max_nesting + over
-      → Text over (d ws))
+  led_begins : AreNames b.types → (d : List Token → List Token) (us : List Token) → AreSpelt us → NoElse us
+      → ((over : ℕ) (s : StmtTree) (ws : List Token) → Statement b.types s ws us → depth s ≤ 0 + over → tallest_but x.text s ≤ max_nesting + over → Text over
+      (d ws))
       → (t : Token) (ts : List Token) (row : Form × List perl_forms.Part)
       → form_row t ≡ Some row → is_type b.types t ≡ false → leads b.types row.1 ts ≡ true → Viable proper x (suc far) Text b d (λ k. simple) (t ∷ ts)
-  led_begins names d us ne fin t ts row e isnt led = record {
+  led_begins names d us su ne fin t ts row e isnt led = record {
     breaks = λ good f h.
-        let y = (form_rest_begins Text b x vx sx row.0 t row.1 e d us ne fin ts).breaks (good_tail {u = t} refl good) f
+        let y = (form_rest_begins Text b x vx sx row.0 t row.1 e d us su ne fin ts).breaks (good_tail {u = t} refl good) f
         (unmapped (form_rest row.0 (at b ts)) (tree_stmt.Perl t.span.line) f (sym (reads b.turns ts led) ∙ h)) in
         record {
           rest = y.rest;
@@ -336,14 +338,14 @@ module _ (Text : ℕ → List Token → Type 0) (b : Input) (x : Token) (vx : Is
       unmapped (Err m) make f h = ap (λ (z : Fault). let r : Outcome PerlForm = Err z in r) (sym (same_fault {A = StmtTree} m f h))
 
   -- no form, by the tokens after its first word
-  unled_begins : AreNames b.types → (d : List Token → List Token) (us : List Token) → NoElse us
-      → ((over : ℕ) (s : StmtTree) (ws : List Token) → Statement b.types s ws us → depth s ≤ 0 + over → tallest_but x.text s ≤ max_nesting + over
-      → Text over (d ws))
+  unled_begins : AreNames b.types → (d : List Token → List Token) (us : List Token) → AreSpelt us → NoElse us
+      → ((over : ℕ) (s : StmtTree) (ws : List Token) → Statement b.types s ws us → depth s ≤ 0 + over → tallest_but x.text s ≤ max_nesting + over → Text over
+      (d ws))
       → (t : Token) (ts : List Token) (row : Form × List perl_forms.Part)
       → form_row t ≡ Some row → is_type b.types t ≡ false → leads b.types row.1 ts ≡ false → Viable proper x (suc far) Text b d (λ k. simple) (t ∷ ts)
-  unled_begins names d us ne fin t ts row e isnt led = record {
+  unled_begins names d us su ne fin t ts row e isnt led = record {
     breaks = λ good f h.
-        let y = (plain_begins d us ne fin (t ∷ ts) none).breaks good f (sym (plain_here b b.turns (t ∷ ts) none) ∙ h) in
+        let y = (plain_begins d us su ne fin (t ∷ ts) none).breaks good f (sym (plain_here b b.turns (t ∷ ts) none) ∙ h) in
         record {
           rest = y.rest;
           w = y.w;
@@ -367,16 +369,16 @@ module _ (Text : ℕ → List Token → Type 0) (b : Input) (x : Token) (vx : Is
       none : form_at b.types (t ∷ ts) ≡ None
       none = row_form b.types t ts row e ∙ rw (isnt, led) refl
 
-  pub simple_begins : AreNames b.types → (d : List Token → List Token) (us : List Token) → NoElse us
-      → ((over : ℕ) (s : StmtTree) (ws : List Token) → Statement b.types s ws us → depth s ≤ 0 + over → tallest_but x.text s ≤ max_nesting + over
-      → Text over (d ws)) → (ts : List Token)
+  pub simple_begins : AreNames b.types → (d : List Token → List Token) (us : List Token) → AreSpelt us → NoElse us
+      → ((over : ℕ) (s : StmtTree) (ws : List Token) → Statement b.types s ws us → depth s ≤ 0 + over → tallest_but x.text s ≤ max_nesting + over → Text over
+      (d ws)) → (ts : List Token)
       → Viable proper x (suc far) Text b d (λ k. simple) ts
-  simple_begins names d us ne fin [] = alike_viable (plain_begins d us ne fin [] refl) (λ us k n g. at_end us k n)
+  simple_begins names d us su ne fin [] = alike_viable (plain_begins d us su ne fin [] refl) (λ us k n g. at_end us k n)
     where
       at_end : (us : List Token) (k : ℕ) → SameNext [] us → simple (turned b k us) ≡ plain (turned b k us)
       at_end [] k n = plain_here b k [] refl
       at_end (u ∷ us) k n = absurd n
-  simple_begins names d us ne fin (t ∷ ts) = by (form_row t) refl
+  simple_begins names d us su ne fin (t ∷ ts) = by (form_row t) refl
     where
       unformed : form_row t ≡ None → (us : List Token) (k : ℕ) → SameNext (t ∷ ts) us → simple (turned b k us) ≡ plain (turned b k us)
       unformed e [] k n = absurd n
@@ -384,29 +386,30 @@ module _ (Text : ℕ → List Token → Type 0) (b : Input) (x : Token) (vx : Is
 
       by_leads : (row : Form × List perl_forms.Part) → form_row t ≡ Some row → is_type b.types t ≡ false → (c : Bool) → leads b.types row.1 ts ≡ c
           → Viable proper x (suc far) Text b d (λ k. simple) (t ∷ ts)
-      by_leads row e isnt true led = led_begins names d us ne fin t ts row e isnt led
-      by_leads row e isnt false led = unled_begins names d us ne fin t ts row e isnt led
+      by_leads row e isnt true led = led_begins names d us su ne fin t ts row e isnt led
+      by_leads row e isnt false led = unled_begins names d us su ne fin t ts row e isnt led
 
       by_type : (row : Form × List perl_forms.Part) → form_row t ≡ Some row → (c : Bool) → is_type b.types t ≡ c
           → Viable proper x (suc far) Text b d (λ k. simple) (t ∷ ts)
-      by_type row e true is = typed_begins d us ne fin t ts row e is
+      by_type row e true is = typed_begins d us su ne fin t ts row e is
       by_type row e false isnt = by_leads row e isnt (leads b.types row.1 ts) refl
 
       by : (o : Option (Form × List perl_forms.Part)) → form_row t ≡ o → Viable proper x (suc far) Text b d (λ k. simple) (t ∷ ts)
-      by None e = alike_viable (plain_begins d us ne fin (t ∷ ts) (no_form b.types t ts e)) (λ us k n g. unformed e us k n)
+      by None e = alike_viable (plain_begins d us su ne fin (t ∷ ts) (no_form b.types t ts e)) (λ us k n g. unformed e us k n)
       by (Some row) e = by_type row e (is_type b.types t) refl
 
   -- ---- heads and labels
 
-  pub condition_begins : (d : List Token → List Token) (us : List Token)
+  pub condition_begins : (d : List Token → List Token) (us : List Token) → AreSpelt us
       → ((over : ℕ) (a : ExprTree) (ws : List Token) → Condition b.types a ws us → height_but x.text a ≤ max_nesting + over → Text over (d ws))
       → (ts : List Token) → Viable proper x (suc far) Text b d (λ k. condition) ts
   unfolding condition
-  condition_begins d us fin ts =
+  condition_begins d us su fin ts =
       let close : Token = sign x (codes ")") in
       by_expect (codes "(") ts _ (sign x (codes "(") ∷ x ∷ close ∷ us)
       (fin 0 _ (sign x (codes "(") ∷ x ∷ close ∷ us) (g.condition refl (name_whole vx) refl) (omega (arith, hole_none x)))
       (λ u ks e is. step (an_expr_local b ks) (an_expr_yields b ks) (an_expr_begins Text b x vx sx (λ js. d (u ∷ js)) (close ∷ us)
+      (sign_spelt x (codes ")") refl, su)
       (λ over a ws q low. fin over a (u ∷ ws) (g.condition is q refl) low) ks)
       (λ a ls y. let h = whole_frame y.0 in onward h (by_expect (codes ")") ls _ (close ∷ us)
       (fin 0 a (u ∷ h.w (close ∷ us)) (g.condition is (h.moves (close ∷ us)) refl) (omega (arith, but_low x.text a, y.1))) (λ v ms e' is'. read refl))))
@@ -416,30 +419,33 @@ module _ (Text : ℕ → List Token → Type 0) (b : Input) (x : Token) (vx : Is
   first_of_until v (g.nothing is) low = (tree_stmt.NoFirst, g.no_first is, omega arith)
   first_of_until v (g.something {a = a} q is) low = (tree_stmt.FirstEffect a, g.first_effect q is, low)
 
-  first_part_begins : (d : List Token → List Token) (us : List Token)
+  first_part_begins : (d : List Token → List Token) (us : List Token) → AreSpelt us
       → ((over : ℕ) (one : FirstTree) (ws : List Token) → First b.types one ws us → tallest_first_but x.text one ≤ max_nesting + over → Text over (d ws))
       → (ts : List Token) → Viable proper x (suc far) Text b d (λ k. first_part) ts
   unfolding first_part
-  first_part_begins d us fin ts =
+  first_part_begins d us su fin ts =
       by_test sees_type (type_tells b ts)
-      (λ is. finished _ (declaration_begins d us (λ over one ws q low. fin over (tree_stmt.FirstDeclare one) ws (g.first_declared q) low) ts))
-      (λ isnt. finished _ (until_begins (codes ";") refl d us (λ over v ws q low. let one = first_of_until v q low in fin over one.0 ws one.1 one.2) ts))
+      (λ is. finished _ (declaration_begins d us su (λ over one ws q low. fin over (tree_stmt.FirstDeclare one) ws (g.first_declared q) low) ts))
+      (λ isnt. finished _ (until_begins (codes ";") refl refl d us su
+      (λ over v ws q low. let one = first_of_until v q low in fin over one.0 ws one.1 one.2) ts))
 
-  pub for_head_begins : (d : List Token → List Token) (us : List Token)
+  pub for_head_begins : (d : List Token → List Token) (us : List Token) → AreSpelt us
       → ((over : ℕ) (h : ForTree) (ws : List Token) → ForHead b.types h ws us → head_but x.text h ≤ max_nesting + over → Text over (d ws))
       → (ts : List Token) → Viable proper x (suc far) Text b d (λ k. for_head) ts
   unfolding for_head
-  for_head_begins d us fin ts =
+  for_head_begins d us su fin ts =
       let close : Token = sign x (codes ")") in
       by_expect (codes "(") ts _ (sign x (codes "(") ∷ stop ∷ stop ∷ close ∷ us)
       (fin 0 _ (sign x (codes "(") ∷ stop ∷ stop ∷ close ∷ us) (g.for_head refl (g.no_first refl) (g.nothing refl) (g.nothing refl)) (omega arith))
-      (λ u ks e is. step (first_part_local b ks) (first_part_yields b ks) (first_part_begins (λ js. d (u ∷ js)) (stop ∷ close ∷ us)
+      (λ u ks e is. step (first_part_local b ks) (first_part_yields b ks)
+      (first_part_begins (λ js. d (u ∷ js)) (stop ∷ close ∷ us) (sign_spelt x (codes ";") refl, (sign_spelt x (codes ")") refl, su))
       (λ over one ws q low. fin over _ (u ∷ ws) (g.for_head is q (g.nothing refl) (g.nothing refl)) (omega (arith, low))) ks)
       (λ one ls y. let h = first_frame y.0 in
-      onward h (step (until_local b (codes ";") ls) (until_yields b (codes ";") ls) (until_begins (codes ";") refl (λ js. d (u ∷ h.w js)) (close ∷ us)
+      onward h (step (until_local b (codes ";") ls) (until_yields b (codes ";") ls)
+      (until_begins (codes ";") refl refl (λ js. d (u ∷ h.w js)) (close ∷ us) (sign_spelt x (codes ")") refl, su)
       (λ over v ws q low. fin over _ (u ∷ h.w ws) (g.for_head is (h.moves ws) q (g.nothing refl)) (omega (arith, low, first_low x.text one, y.1))) ls)
       (λ v ms z. let k = until_frame z.0 in
-      onward k (finished _ (until_begins (codes ")") refl (λ js. d (u ∷ h.w (k.w js))) us
+      onward k (finished _ (until_begins (codes ")") refl refl (λ js. d (u ∷ h.w (k.w js))) us su
       (λ over c ws q low. fin over _ (u ∷ h.w (k.w ws)) (g.for_head is (h.moves (k.w ws)) (k.moves ws) q)
       (omega (arith, low, first_low x.text one, y.1, option_low x.text v, z.1))) ms))))))
 
@@ -515,30 +521,31 @@ module _ (Text : ℕ → List Token → Type 0) (b : Input) (x : Token) (vx : Is
   no_slot the.NewRecord us = not_spelt (codes "(") refl
   no_slot the.Unused us = not_spelt (codes "(") refl
 
-  pub declared_text : (over : ℕ) (d : List Token → List Token) (us : List Token)
+  pub declared_text : (over : ℕ) (d : List Token → List Token) (us : List Token) → AreSpelt us
       → ((over : ℕ) (s : StmtTree) (ws : List Token) → Part b.types s ws us → depth s ≤ 0 + over → tallest_but x.text s ≤ max_nesting + over → Text over (d ws))
       → (ts : List Token) → head_is (is_type b.types) ts ≡ true → begins_form_at b.types ts ≡ false
       → (w : List Token → List Token) → IsFront w → (rest more : List Token) → w rest ≡ ts → (one : DeclaredTree) → Declared b.types one (w more) us
-      → tallest_value_but x.text one.names ≤ max_nesting + over → (more : List Token) × Text over (d (w more))
-  declared_text over d us fin ts typed none w front rest more here one q low = by (begins_form_at b.types (w more)) refl
+      → tallest_value_but x.text one.names ≤ max_nesting + over → (js : List Token) × (AreSpelt more → AreSpelt js) × Text over (d (w js))
+  declared_text over d us su fin ts typed none w front rest more here one q low = by (begins_form_at b.types (w more)) refl
     where
       all : front.before ++ rest ≡ ts
       all = sym (front.is rest) ∙ here
 
-      alone : front.before ≡ [] → (more : List Token) × Text over (d (w more))
+      alone : front.before ≡ [] → (js : List Token) × (AreSpelt more → AreSpelt js) × Text over (d (w js))
       alone e =
           let int : Token = word x (codes "int") in
           let same : w (int ∷ x ∷ stop ∷ us) ≡ int ∷ x ∷ stop ∷ us = front.is (int ∷ x ∷ stop ∷ us) ∙ ap (λ l. l ++ int ∷ x ∷ stop ∷ us) e in
           let no_form : begins_form_at b.types (int ∷ x ∷ stop ∷ us) ≡ false = rw int_row refl in
           let two = declared_of (r.type_name (r.one_word (int_is b.types x)) refl) (one_name b.types x vx (stop ∷ us)) refl in (
             int ∷ x ∷ stop ∷ us,
+            (λ a. (word_spelt x (codes "int") refl, (sx, (sign_spelt x (codes ";") refl, su)))),
             fin over (tree_stmt.Declare two.0) (w (int ∷ x ∷ stop ∷ us))
                 (subst (λ (l : List Token). Part b.types (tree_stmt.Declare two.0) l us) (sym same) (g.declared no_form two.1)) (omega arith)
                 (declared_low x.text two.0 (name_alone x ∷ []) two.2 (omega arith)),
           )
 
-      one_word : (c : Token) → front.before ≡ c ∷ [] → (row : Form × List perl_forms.Part) → form_row c ≡ Some row → (more : List Token)
-          × Text over (d (w more))
+      one_word : (c : Token) → front.before ≡ c ∷ [] → (row : Form × List perl_forms.Part) → form_row c ≡ Some row
+          → (js : List Token) × (AreSpelt more → AreSpelt js) × Text over (d (w js))
       one_word c e row f =
           let same : w (x ∷ stop ∷ us) ≡ c ∷ x ∷ stop ∷ us = front.is (x ∷ stop ∷ us) ∙ ap (λ l. l ++ x ∷ stop ∷ us) e in
           let facts = row_facts c row f in
@@ -549,12 +556,14 @@ module _ (Text : ℕ → List Token → Type 0) (b : Input) (x : Token) (vx : Is
           rw f (ap (λ ss. fits_first b.types ss (x ∷ stop ∷ us)) facts.slots ∙ no_slot row.0 (stop ∷ us)) in
           let two = declared_of (r.type_name (r.one_word is) isnt) (one_name b.types x vx (stop ∷ us)) refl in (
             x ∷ stop ∷ us,
+            (λ a. (sx, (sign_spelt x (codes ";") refl, su))),
             fin over (tree_stmt.Declare two.0) (w (x ∷ stop ∷ us))
                 (subst (λ (l : List Token). Part b.types (tree_stmt.Declare two.0) l us) (sym same) (g.declared no_form two.1)) (omega arith)
                 (declared_low x.text two.0 (name_alone x ∷ []) two.2 (omega arith)),
           )
 
-      by_before : (before : List Token) → front.before ≡ before → begins_form_at b.types (w more) ≡ true → (more : List Token) × Text over (d (w more))
+      by_before : (before : List Token) → front.before ≡ before → begins_form_at b.types (w more) ≡ true
+          → (js : List Token) × (AreSpelt more → AreSpelt js) × Text over (d (w js))
       by_before [] e begun = alone e
       by_before (c ∷ []) e begun =
           let here_is : w more ≡ c ∷ more = front.is more ∙ ap (λ l. l ++ more) e in
@@ -567,19 +576,19 @@ module _ (Text : ℕ → List Token → Type 0) (b : Input) (x : Token) (vx : Is
           let wrong : true ≡ false = sym begun ∙ (ap (begins_form_at b.types) here_is ∙ (stays ∙ (ap (begins_form_at b.types) there_is ∙ none))) in
           absurd cc
 
-      by : (c : Bool) → begins_form_at b.types (w more) ≡ c → (more : List Token) × Text over (d (w more))
-      by false n = (more, fin over (tree_stmt.Declare one) (w more) (g.declared n q) (omega arith) low)
+      by : (c : Bool) → begins_form_at b.types (w more) ≡ c → (js : List Token) × (AreSpelt more → AreSpelt js) × Text over (d (w js))
+      by false n = (more, (λ a. a), fin over (tree_stmt.Declare one) (w more) (g.declared n q) (omega arith) low)
       by true begun = by_before front.before refl begun
 
   -- the same of a name that would be too deep, after more tokens than tell a form
-  pub declared_name : (d : List Token → List Token) (us : List Token)
+  pub declared_name : (d : List Token → List Token) (us : List Token) → AreSpelt us
       → ((over : ℕ) (s : StmtTree) (ws : List Token) → Part b.types s ws us → depth s ≤ 0 + over → tallest_but x.text s ≤ max_nesting + over
       → Text over (d ws))
       → (ts : List Token) → begins_form_at b.types ts ≡ false → (w : List Token → List Token) (f : IsFront w) (rest more : List Token) → 1 < length f.before
       → w rest ≡ ts → (one : DeclaredTree) → Declared b.types one (w (x ∷ more)) us → tallest_value_but x.text one.names ≤ max_nesting + 0
-      → (js : List Token) × Text 0 (d (w (x ∷ js)))
-  declared_name d us fin ts none w f rest more long here one q low =
+      → (js : List Token) × (AreSpelt more → AreSpelt js) × Text 0 (d (w (x ∷ js)))
+  declared_name d us su fin ts none w f rest more long here one q low =
       let there : begins_form_at b.types (f.before ++ rest) ≡ false = ap (begins_form_at b.types) (sym (f.is rest) ∙ here) ∙ none in
       let still : begins_form_at b.types (w (x ∷ more)) ≡ false =
       ap (begins_form_at b.types) (f.is (x ∷ more)) ∙ (begins_stays b.types f.before rest (x ∷ more) long ∙ there) in
-      (more, fin 0 (tree_stmt.Declare one) (w (x ∷ more)) (g.declared still q) (omega arith) low)
+      (more, (λ a. a), fin 0 (tree_stmt.Declare one) (w (x ∷ more)) (g.declared still q) (omega arith) low)

@@ -7,16 +7,16 @@ use Rattle.xs_base.specs.declared.fault_codes.TheConstants.{NESTED_TOO_DEEP, NO_
 use Rattle.xs_base.specs.declared.source.FileOf.{FileOf}
 use Rattle.xs_ctok.specs.declared.token.Token.{Token}
 use Rattle.xs_csyn.specs.FileGrammar.{AreNames, File}
-use Rattle.xs_csyn.specs.FileReader.{block_of, expr_of, file_of}
+use Rattle.xs_csyn.specs.FileReader.{args_of, block_of, expr_of, file_of}
 use Rattle.xs_csyn.specs.Grammar.{IsVariable, Whole}
-use Rattle.xs_cexpr.specs.ExpressionHeights.{height}
+use Rattle.xs_cexpr.specs.ExpressionHeights.{height, heights}
 use Rattle.xs_csyn.specs.FileHeights.{Fit, FitItems}
-use Rattle.xs_csyn.specs.Prefixes.{FitItemsBut, IsFresh, height_but, tallest_of_but}
+use Rattle.xs_csyn.specs.Prefixes.{FitItemsBut, IsFresh, height_but, heights_but, tallest_of_but}
 use Rattle.xs_cstmt.specs.StatementHeights.{depths}
 use Rattle.xs_cstmt.specs.PerlForms.{form_row}
 use Rattle.xs_csyn.specs.TokenTexts.{AreSpelt, IsSpelt}
-use Rattle.xs_csyn.specs.StatementGrammar.{Rest}
-use Rattle.xs_cexpr.specs.ExpressionTree.{ExprTree}
+use Rattle.xs_csyn.specs.StatementGrammar.{AllArguments, Rest}
+use Rattle.xs_cexpr.specs.ExpressionTree.{ExprTree, exprs_of}
 use Rattle.xs_cstmt.specs.StatementReader.{max_nesting}
 use Rattle.xs_cstmt.specs.StatementTree.{StmtTrees}
 use Rattle.xs_csyn.specs.FileTree.{ItemTree}
@@ -38,14 +38,14 @@ code_of false = NO_READING_HERE
 -- counts as nothing, `Within` those within the bounds, and `Text` those of any depth.
 pub data TooDeepThere (Are Within Begun Text : List Token → Type 0) (x : Token)
     (before rest : List Token) : Type 0 where
-  -- An operand may stand there: a text goes on with this name, which would be too deep. No text
-  -- within the bounds goes on with it.
-  any_operand : (more : List Token) → Begun (before ++ x ∷ more)
+  -- This name may stand there as an operand, but too deep: a text goes on with it where it counts
+  -- as nothing, and none does where it counts.
+  name_too_deep : (more : List Token) → Are (before ++ x ∷ more) → Begun (before ++ x ∷ more)
       → ((us : List Token) → Are (before ++ x ∷ us) → Within (before ++ x ∷ us) → ⊥)
       → TooDeepThere Are Within Begun Text x before rest
-  -- A text goes on with the token that stands there, and none within the bounds does.
-  next_token : (t : Token) (us more : List Token) → rest ≡ t ∷ us → Text (before ++ t ∷ more)
-      → TooDeepThere Are Within Begun Text x before rest
+  -- A text goes on with the token that stands there, but none within the bounds.
+  token_too_deep : (t : Token) (us more : List Token) → rest ≡ t ∷ us → Are (before ++ t ∷ more)
+      → Text (before ++ t ∷ more) → TooDeepThere Are Within Begun Text x before rest
 
 -- The fault of tokens that are refused stands at the first of those that are left, or at the end.
 -- They are compared with others that are so. What is read of a whole file is without directives.
@@ -69,7 +69,7 @@ pub record StandsAt {T : Type 0} (read : List Token → Result T Fault) (whole :
   -- The tokens before it begin a text.
   pub more : List Token
   pub text : Begun (before ++ more)
-  -- What stands next is too deep, where the fault says so.
+  -- Where the fault is one of nesting, what stands next would be too deep.
   pub cause : deep ≡ true → TooDeepThere Are (Within ⊥) Begun Text x before rest
 
 -- A name that a text can be completed with: it names no type, and begins no form.
@@ -109,6 +109,31 @@ ExprFaultLaw = (file : FileOf) (last : ℕ) (types : List (List ℕ)) (around : 
     → StandsAt (expr_of file last types around) false (λ js. Unit {0})
     (IsExprWithin types (max_nesting - around)) (IsExprBut x.text types (max_nesting - around))
     (IsExpr types) x file last (kept false ts) f
+
+-- these tokens are arguments of a call
+abbrev pub AreArguments : List (List ℕ) → List Token → Type 0
+AreArguments types ts = (all : List ExprTree) × AllArguments types all ts
+
+-- They are some that are no deeper than they may be, where this name counts as nothing.
+abbrev pub AreArgumentsBut : List ℕ → List (List ℕ) → ℕ → List Token → Type 0
+AreArgumentsBut hole types room ts = (all : List ExprTree) × AllArguments types all ts
+    × (heights_but hole (exprs_of all) ≤ room)
+
+-- They are some that are no deeper than they may be, or of any depth, where no word of the grammar
+-- names a type.
+abbrev pub AreArgumentsWithin : List (List ℕ) → ℕ → Type 0 → List Token → Type 0
+AreArgumentsWithin types room Any ts = (all : List ExprTree) × AreNames types
+    × AllArguments types all ts × ((heights (exprs_of all) ≤ room) ⊎ Any)
+
+-- The same of tokens that are not read as the arguments of a call, without its parentheses.
+abbrev pub ArgumentsFaultLaw : Type 0
+ArgumentsFaultLaw = (file : FileOf) (last : ℕ) (types : List (List ℕ)) (around : ℕ)
+    (ts : List Token) (f : Fault) (x : Token) → IsVariable types x
+    → args_of file last types around ts ≡ Err f
+    → StandsAt (args_of file last types around) false (λ js. Unit {0})
+    (AreArgumentsWithin types (max_nesting - around))
+    (AreArgumentsBut x.text types (max_nesting - around)) (AreArguments types) x file last
+    (kept false ts) f
 
 -- ---- what stands in a block
 

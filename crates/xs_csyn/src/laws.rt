@@ -1,6 +1,6 @@
 //! Laws of the grammar, for all tokens.
 ghost use Rattle.xs_csyn.specs.Laws.{ArgumentsCompleteLaw, ArgumentsDeepLaw, ArgumentsSoundLaw, BlockCompleteLaw, BlockDeepLaw, BlockSoundLaw, BlockUniqueLaw, ExprCompleteLaw, ExprDeepLaw, ExprSoundLaw, ExprUniqueLaw, FileCompleteLaw, FileDeepLaw, FileSoundLaw, FileUniqueLaw, FileUnreadLaw, TurnsLaw};
-ghost use Rattle.xs_csyn.specs.FaultPlaces.{BlockFaultLaw, ExprFaultLaw, FileFaultLaw, FillerLaw};
+ghost use Rattle.xs_csyn.specs.FaultPlaces.{ArgumentsFaultLaw, BlockFaultLaw, ExprFaultLaw, FileFaultLaw, FillerLaw};
 ghost use Rattle.xs_csyn.specs.TokenTexts.{TokensSpeltLaw};
 
 /// What is read is in the grammar, and no deeper than it may be.
@@ -47,6 +47,12 @@ pub fn turns_law()
 #[tactic(auto, using(crate::proofs::ExpressionPlaces::expr_fault_law))]
 pub fn expr_fault_law()
     ensures { ExprFaultLaw }
+{}
+
+/// The same of tokens that are not read as the arguments of a call.
+#[tactic(auto, using(crate::proofs::ArgumentPlaces::arguments_fault_law))]
+pub fn arguments_fault_law()
+    ensures { ArgumentsFaultLaw }
 {}
 
 /// The same of tokens that are not read as what stands in a block.

@@ -9,8 +9,8 @@ mod tree;
 pub use declared_types::type_names;
 pub use file::{read_args, read_block, read_expr, read_file};
 pub use laws::{
-    block_fault_law, complete_law, deep_law, expr_fault_law, file_fault_law, filler_law, sound_law,
-    tokens_are_spelt_law, turns_law, unique_law,
+    arguments_fault_law, block_fault_law, complete_law, deep_law, expr_fault_law, file_fault_law,
+    filler_law, sound_law, tokens_are_spelt_law, turns_law, unique_law,
 };
 pub use tree::{CFile, Define, FileItem, Function, Head, Par, Record, Typedef, XsFun};
 pub use xs_cexpr::{Expr, Place};

@@ -12,25 +12,26 @@ use Rattle.xs_api.specs.declared.api.Abrupt.TheVariants.{Croaks, Traps, Spent}
 use Rattle.xs_api.specs.declared.api.Operand.{Operand}
 use Rattle.xs_api.specs.declared.api.Operand.TheVariants.{Unset, Num, Scalar, Void}
 use Rattle.xs_api.specs.declared.stacks.Depths.{Depths}
-use Rattle.xs_perlapi.specs.declared.row.Row.TheVariants.{XsEnd}
-use Rattle.xs_ccheck.specs.Functions.{function_at}
-use Rattle.xs_ccheck.specs.TypedTree.{Tree, Literal, Variable, ItemCount, Assign, Binary, Convert, ApiRow, CroakUsage, Register, Block, If, Forget, Declare, NoTrees, MoreTrees, tree_count, Function, Code}
+use Rattle.xs_perlapi.specs.declared.row.Row.TheVariants.{StSet, XsEnd}
+use Rattle.xs_ctree.specs.Functions.{function_at}
+use Rattle.xs_ctree.specs.TypedTree as tree
+use Rattle.xs_ctree.specs.TypedTree.{Expr, Literal, Variable, ItemCount, Cast, Binary, Assign, Api, Usage, Target, ToVariable, ToItem, NoExprs, MoreExprs, Stmt, Block, Declare, If, Quit, Register, NoStmts, MoreStmts, expr_count, Function, Code}
 use Rattle.xs_api.specs.World.{World, Swept, Clean, Dirty, depths_of}
 use Rattle.xs_api.specs.Effects.{Effect, Gives, Ends}
 use Rattle.xs_machine.specs.Dispatch.{Prims}
 use Rattle.xs_machine.specs.MachineState.{State, Out, Done, Stop, tick, lift, read_value, assigned, write_var, assign_as, given, calculate, item_count, operate, convert, truth_of}
 use Rattle.xs_api.specs.Limits.{most_items}
 use Rattle.xs_machine.specs.Dispatch.{counted_rows}
-use Rattle.xs_machine.specs.Cmean.{meaning}
-use Rattle.xs_machine.specs.Machine.{Work, DoTree, DoTrees, DoBlock, SetVar, Operate, ConvertTop, DoRow, Branch, ForgetTop, DropTop, Enter, Leave, Mach, popped, undefined_text, run_on, halt, on_top, unwind, at_leave, swept_to, land, fall_off, branch_on, entered, enter, act_tree, act, step_at, step, steps, tree_size, all_size, entry_size, left, run, call_meaning, call_over, is_over, begun_state, unless_barred}
+use Rattle.xs_machine.specs.Cmean.{dropped, exec}
+use Rattle.xs_machine.specs.Machine.{Work, DoExpr, DoExprs, DoStmt, DoStmts, SetVar, Operate, ToType, DoRow, Branch, DropTop, Enter, Leave, Mach, passed, popped, undefined_text, run_on, halt, on_top, unwind, at_leave, swept_to, land, fall_off, branch_on, entered, enter, act_assign, act_expr, act_stmt, act, step_at, step, steps, stmt_size, all_size, entry_size, left, run, call_meaning, call_over, is_over, begun_state, unless_barred}
 use Rattle.xs_machine.specs.declared.machine.Outcome.TheVariants as outcome
 use Rattle.xs_machine.specs.Laws.{CallMeans, RunEnds}
-use Rattle.xs_machine.proofs.Follows.{Comes, comes_on, comes_by, comes_at, tree_follows}
+use Rattle.xs_machine.proofs.Follows.{Comes, comes_on, comes_by, comes_at, stmt_follows}
 
 -- how much the entry of a function brings
 abbrev option_size : Option Function → ℕ
 option_size None = 1
-option_size (Some f) = tree_size f.body + 1
+option_size (Some f) = stmt_size f.body + 1
 
 -- the entry of a function of the file brings no more than the entry of any
 function_size : (all : List Function) (f : ℕ) → option_size (slice_get all f) ≤ entry_size all
@@ -91,15 +92,15 @@ module _ {S : Type 0} (P : Prims S) (code : Code) where
   unwind_below : (a : Abrupt) (k : List Work) (σ : State S) → Below (unwind P a k σ) σ.turns 0
   unwind_below a [] σ = record { turns = omega arith; size = omega arith }
   unwind_below a (Leave d ∷ k) σ = leave_below a d σ
-  unwind_below a (DoTree t ∷ k) σ = unwind_below a k σ
-  unwind_below a (DoTrees ts ∷ k) σ = unwind_below a k σ
-  unwind_below a (DoBlock ts ∷ k) σ = unwind_below a k σ
+  unwind_below a (DoExpr e ∷ k) σ = unwind_below a k σ
+  unwind_below a (DoExprs es ∷ k) σ = unwind_below a k σ
+  unwind_below a (DoStmt s ∷ k) σ = unwind_below a k σ
+  unwind_below a (DoStmts ss ∷ k) σ = unwind_below a k σ
   unwind_below a (SetVar x t ∷ k) σ = unwind_below a k σ
   unwind_below a (Operate op ∷ k) σ = unwind_below a k σ
-  unwind_below a (ConvertTop kind ∷ k) σ = unwind_below a k σ
+  unwind_below a (ToType t ∷ k) σ = unwind_below a k σ
   unwind_below a (DoRow r n ∷ k) σ = unwind_below a k σ
   unwind_below a (Branch s t ∷ k) σ = unwind_below a k σ
-  unwind_below a (ForgetTop ∷ k) σ = unwind_below a k σ
   unwind_below a (DropTop ∷ k) σ = unwind_below a k σ
   unwind_below a (Enter f ∷ k) σ = unwind_below a k σ
 
@@ -108,10 +109,11 @@ module _ {S : Type 0} (P : Prims S) (code : Code) where
   over_left m t size b h = less_left m t 0 size b h
 
   -- an outcome of a part, with the work after it
-  land_left : (k : List Work) (vs : List Operand) (o : Out S Operand) (t size : ℕ) → turns_of o ≤ t → all_size k < size
-      → left code (land P ◌∷◌ k vs o) < t * most + size
-  land_left k vs (Done v σ) t size h less = less_left (run_on k (v ∷ vs) σ) t (all_size k) size (record { turns = h; size = omega arith }) less
-  land_left k vs (Stop a σ) t size h less = let b =
+  land_left : {A : Type 0} (put : A → List Operand → List Operand) (k : List Work) (vs : List Operand) (o : Out S A) (t size : ℕ) → turns_of o ≤ t
+      → all_size k < size → left code (land P put k vs o) < t * most + size
+  land_left put k vs (Done v σ) t size h less =
+      less_left (run_on k (put v vs) σ) t (all_size k) size (record { turns = h; size = omega arith }) less
+  land_left put k vs (Stop a σ) t size h less = let b =
       unwind_below a k σ in over_left (unwind P a k σ) t size (record { turns = omega (arith, b.turns, h); size = b.size }) (omega (arith, less))
 
   simple : (k k1 : List Work) (vs : List Operand) (σ σ1 : State S) → σ1.turns ≤ σ.turns → all_size k1 < all_size k
@@ -126,6 +128,10 @@ module _ {S : Type 0} (P : Prims S) (code : Code) where
   lift_turns : (e : Effect S) (σ : State S) → turns_of (lift e σ) ≤ σ.turns
   lift_turns (Gives v f s) σ = omega arith
   lift_turns (Ends a f s) σ = omega arith
+
+  drop_turns : (e : Effect S) (σ : State S) → turns_of (dropped (lift e σ)) ≤ σ.turns
+  drop_turns (Gives v f s) σ = omega arith
+  drop_turns (Ends a f s) σ = omega arith
 
   read_turns : (v : Operand) (σ : State S) → turns_of (read_value v σ) ≤ σ.turns
   read_turns Unset σ = omega arith
@@ -154,17 +160,17 @@ module _ {S : Type 0} (P : Prims S) (code : Code) where
   operate_turns op (Scalar p) v σ = omega arith
   operate_turns op Void v σ = omega arith
 
-  branch_left : (b : Option Bool) (x y : Tree) (k : List Work) (vs : List Operand) (σ : State S)
+  branch_left : (b : Option Bool) (x y : Stmt) (k : List Work) (vs : List Operand) (σ : State S)
       → left code (branch_on P b x y k vs σ) < σ.turns * most + all_size (Branch x y ∷ k)
   branch_left None x y k vs σ = over_left _ σ.turns (all_size (Branch x y ∷ k)) (unwind_below (Traps trap.Kind) k σ) (omega arith)
-  branch_left (Some true) x y k vs σ = simple (Branch x y ∷ k) (DoTree x ∷ k) vs σ σ (omega arith) (omega arith)
-  branch_left (Some false) x y k vs σ = simple (Branch x y ∷ k) (DoTree y ∷ k) vs σ σ (omega arith) (omega arith)
+  branch_left (Some true) x y k vs σ = simple (Branch x y ∷ k) (DoStmt x ∷ k) vs σ σ (omega arith) (omega arith)
+  branch_left (Some false) x y k vs σ = simple (Branch x y ∷ k) (DoStmt y ∷ k) vs σ σ (omega arith) (omega arith)
 
-  enter_turn : (turns : ℕ) (f : Function) (k : List Work) (σ : State S) (size : ℕ) → σ.turns ≡ turns → tree_size f.body + 1 ≤ most → all_size k < size
-      → left code (tick turns (unwind P Spent k σ) (λ t. run_on (DoTree f.body ∷ DropTop ∷ k) [] (entered f t σ))) < turns * most + size
+  enter_turn : (turns : ℕ) (f : Function) (k : List Work) (σ : State S) (size : ℕ) → σ.turns ≡ turns → stmt_size f.body + 1 ≤ most → all_size k < size
+      → left code (tick turns (unwind P Spent k σ) (λ t. run_on (DoStmt f.body ∷ k) [] (entered f t σ))) < turns * most + size
   enter_turn zero f k σ size e h less = let b =
       unwind_below Spent k σ in over_left (unwind P Spent k σ) zero size (record { turns = omega (arith, b.turns, e); size = b.size }) (omega (arith, less))
-  enter_turn (suc t) f k σ size e h less = falls_turn t most size (all_size (DoTree f.body ∷ DropTop ∷ k)) (omega (arith, h, less))
+  enter_turn (suc t) f k σ size e h less = falls_turn t most size (all_size (DoStmt f.body ∷ k)) (omega (arith, h, less))
 
   enter_left : (f : Option Function) (k : List Work) (σ : State S) (size : ℕ) → option_size f ≤ most → all_size k < size
       → left code (enter P f k σ) < σ.turns * most + size
@@ -176,45 +182,56 @@ module _ {S : Type 0} (P : Prims S) (code : Code) where
   fall_left d (Stop a σ) t size h less = let b =
       leave_below a d σ in over_left (at_leave P a d σ) t size (record { turns = omega (arith, b.turns, h); size = b.size }) less
 
-  tree_left : (t : Tree) (k : List Work) (vs : List Operand) (σ : State S) → left code (act_tree P t k vs σ) < σ.turns * most + all_size (DoTree t ∷ k)
-  tree_left (Literal n) k vs σ = simple (DoTree (Literal n) ∷ k) k (Num n ∷ vs) σ σ (omega arith) (omega arith)
-  tree_left (Variable x) k vs σ = land_left k vs (read_value (slice_index_or σ.vars x Unset) σ) σ.turns (all_size (DoTree (Variable x) ∷ k)) (read_turns _ σ)
+  assign_left : (at : ℕ) (to : Target) (e : Expr) (k : List Work) (vs : List Operand) (σ : State S)
+      → left code (act_assign P to e k vs σ) < σ.turns * most + all_size (DoExpr (Assign at to e) ∷ k)
+  assign_left at (ToVariable x t) e k vs σ = simple (DoExpr (Assign at (ToVariable x t) e) ∷ k) (DoExpr e ∷ SetVar x t ∷ k) vs σ σ (omega arith) (omega arith)
+  assign_left at (ToItem i) e k vs σ =
+      simple (DoExpr (Assign at (ToItem i) e) ∷ k) (DoExpr e ∷ DoExpr i ∷ DoRow StSet 2 ∷ k) vs σ σ (omega arith) (omega arith)
+
+  expr_left : (e : Expr) (k : List Work) (vs : List Operand) (σ : State S) → left code (act_expr P e k vs σ) < σ.turns * most + all_size (DoExpr e ∷ k)
+  expr_left (Literal n) k vs σ = simple (DoExpr (Literal n) ∷ k) k (Num n ∷ vs) σ σ (omega arith) (omega arith)
+  expr_left (Variable x) k vs σ = land_left ◌∷◌ k vs (read_value (slice_index_or σ.vars x Unset) σ) σ.turns (all_size (DoExpr (Variable x) ∷ k))
+      (read_turns _ σ)
       (omega arith)
-  tree_left ItemCount k vs σ = simple (DoTree ItemCount ∷ k) k (item_count σ ∷ vs) σ σ (omega arith) (omega arith)
-  tree_left (Assign x t e) k vs σ = simple (DoTree (Assign x t e) ∷ k) (DoTree e ∷ SetVar x t ∷ k) vs σ σ (omega arith) (omega arith)
-  tree_left (Binary op a b) k vs σ = simple (DoTree (Binary op a b) ∷ k) (DoTree a ∷ DoTree b ∷ Operate op ∷ k) vs σ σ (omega arith) (omega arith)
-  tree_left (Convert kind e) k vs σ = simple (DoTree (Convert kind e) ∷ k) (DoTree e ∷ ConvertTop kind ∷ k) vs σ σ (omega arith) (omega arith)
-  tree_left (ApiRow r xs) k vs σ = simple (DoTree (ApiRow r xs) ∷ k) (DoTrees xs ∷ DoRow r (tree_count xs) ∷ k) vs σ σ (omega arith) (omega arith)
-  tree_left (CroakUsage text) k vs σ = land_left k vs (lift (P.croak_usage text σ.frame σ.store) σ) σ.turns (all_size (DoTree (CroakUsage text) ∷ k))
+  expr_left ItemCount k vs σ = simple (DoExpr ItemCount ∷ k) k (item_count σ ∷ vs) σ σ (omega arith) (omega arith)
+  expr_left (Cast t e) k vs σ = simple (DoExpr (Cast t e) ∷ k) (DoExpr e ∷ ToType t ∷ k) vs σ σ (omega arith) (omega arith)
+  expr_left (Binary op a b) k vs σ = simple (DoExpr (Binary op a b) ∷ k) (DoExpr a ∷ DoExpr b ∷ Operate op ∷ k) vs σ σ (omega arith) (omega arith)
+  expr_left (Assign at to e) k vs σ = assign_left at to e k vs σ
+  expr_left (Api at r es) k vs σ = simple (DoExpr (Api at r es) ∷ k) (DoExprs es ∷ DoRow r (expr_count es) ∷ k) vs σ σ (omega arith) (omega arith)
+  expr_left (Usage at text) k vs σ = land_left ◌∷◌ k vs (lift (P.croak_usage text σ.frame σ.store) σ) σ.turns (all_size (DoExpr (Usage at text) ∷ k))
       (lift_turns (P.croak_usage text σ.frame σ.store) σ) (omega arith)
-  tree_left (Register name f) k vs σ = land_left k vs (lift (P.register name f σ.frame σ.store) σ) σ.turns (all_size (DoTree (Register name f) ∷ k))
-      (lift_turns (P.register name f σ.frame σ.store) σ) (omega arith)
-  tree_left (Block ts) k vs σ = simple (DoTree (Block ts) ∷ k) (DoBlock ts ∷ k) vs σ σ (omega arith) (omega arith)
-  tree_left (If e a b) k vs σ = simple (DoTree (If e a b) ∷ k) (DoTree e ∷ Branch a b ∷ k) vs σ σ (omega arith) (omega arith)
-  tree_left (Forget e) k vs σ = simple (DoTree (Forget e) ∷ k) (DoTree e ∷ ForgetTop ∷ k) vs σ σ (omega arith) (omega arith)
-  tree_left (Declare x) k vs σ = simple (DoTree (Declare x) ∷ k) k (Void ∷ vs) σ (write_var x Unset σ) (omega arith) (omega arith)
+
+  stmt_left : (s : Stmt) (k : List Work) (vs : List Operand) (σ : State S) → left code (act_stmt P s k vs σ) < σ.turns * most + all_size (DoStmt s ∷ k)
+  stmt_left (Block slots ss) k vs σ = simple (DoStmt (Block slots ss) ∷ k) (DoStmts ss ∷ k) vs σ σ (omega arith) (omega arith)
+  stmt_left (tree.Effect e) k vs σ = simple (DoStmt (tree.Effect e) ∷ k) (DoExpr e ∷ DropTop ∷ k) vs σ σ (omega arith) (omega arith)
+  stmt_left (Declare at x) k vs σ = simple (DoStmt (Declare at x) ∷ k) k vs σ (write_var x Unset σ) (omega arith) (omega arith)
+  stmt_left (If at e a b) k vs σ = simple (DoStmt (If at e a b) ∷ k) (DoExpr e ∷ Branch a b ∷ k) vs σ σ (omega arith) (omega arith)
+  stmt_left (Quit at e) k vs σ = simple (DoStmt (Quit at e) ∷ k) (DoExpr e ∷ DropTop ∷ k) vs σ σ (omega arith) (omega arith)
+  stmt_left (Register name f) k vs σ = land_left passed k vs (dropped (lift (P.register name f σ.frame σ.store) σ)) σ.turns
+      (all_size (DoStmt (Register name f) ∷ k))
+      (drop_turns (P.register name f σ.frame σ.store) σ) (omega arith)
 
   act_left : (w : Work) (k : List Work) (vs : List Operand) (σ : State S) → left code (act P code w k vs σ) < σ.turns * most + all_size (w ∷ k)
-  act_left (DoTree t) k vs σ = tree_left t k vs σ
-  act_left (DoTrees NoTrees) k vs σ = simple (DoTrees NoTrees ∷ k) k vs σ σ (omega arith) (omega arith)
-  act_left (DoTrees (MoreTrees t ts)) k vs σ = simple (DoTrees (MoreTrees t ts) ∷ k) (DoTree t ∷ DoTrees ts ∷ k) vs σ σ (omega arith) (omega arith)
-  act_left (DoBlock NoTrees) k vs σ = simple (DoBlock NoTrees ∷ k) k (Void ∷ vs) σ σ (omega arith) (omega arith)
-  act_left (DoBlock (MoreTrees t ts)) k vs σ = simple (DoBlock (MoreTrees t ts) ∷ k) (DoTree t ∷ DropTop ∷ DoBlock ts ∷ k) vs σ σ (omega arith) (omega arith)
+  act_left (DoExpr e) k vs σ = expr_left e k vs σ
+  act_left (DoExprs NoExprs) k vs σ = simple (DoExprs NoExprs ∷ k) k vs σ σ (omega arith) (omega arith)
+  act_left (DoExprs (MoreExprs e es)) k vs σ = simple (DoExprs (MoreExprs e es) ∷ k) (DoExpr e ∷ DoExprs es ∷ k) vs σ σ (omega arith) (omega arith)
+  act_left (DoStmt s) k vs σ = stmt_left s k vs σ
+  act_left (DoStmts NoStmts) k vs σ = simple (DoStmts NoStmts ∷ k) k vs σ σ (omega arith) (omega arith)
+  act_left (DoStmts (MoreStmts s ss)) k vs σ = simple (DoStmts (MoreStmts s ss) ∷ k) (DoStmt s ∷ DoStmts ss ∷ k) vs σ σ (omega arith) (omega arith)
   act_left (SetVar x t) k vs σ =
-      top_left vs σ _ (all_size (SetVar x t ∷ k)) (omega arith) (λ v rest. land_left k rest (assign_as (assigned t v) x σ) σ.turns (all_size (SetVar x t ∷ k))
+      top_left vs σ _ (all_size (SetVar x t ∷ k)) (omega arith)
+      (λ v rest. land_left ◌∷◌ k rest (assign_as (assigned t v) x σ) σ.turns (all_size (SetVar x t ∷ k))
       (assign_turns (assigned t v) x σ) (omega arith))
   act_left (Operate op) k vs σ =
       top_left vs σ _ (all_size (Operate op ∷ k)) (omega arith) (λ u rest.
-      top_left rest σ _ (all_size (Operate op ∷ k)) (omega arith) (λ v rest1. land_left k rest1 (operate op v u σ) σ.turns (all_size (Operate op ∷ k))
+      top_left rest σ _ (all_size (Operate op ∷ k)) (omega arith) (λ v rest1. land_left ◌∷◌ k rest1 (operate op v u σ) σ.turns (all_size (Operate op ∷ k))
       (operate_turns op v u σ) (omega arith)))
-  act_left (ConvertTop kind) k vs σ =
-      top_left vs σ _ (all_size (ConvertTop kind ∷ k)) (omega arith) (λ v rest. land_left k rest (convert kind v σ) σ.turns (all_size (ConvertTop kind ∷ k))
+  act_left (ToType t) k vs σ =
+      top_left vs σ _ (all_size (ToType t ∷ k)) (omega arith) (λ v rest. land_left ◌∷◌ k rest (convert t v σ) σ.turns (all_size (ToType t ∷ k))
       (given_turns _ σ) (omega arith))
-  act_left (DoRow r n) k vs σ = land_left k (popped n [] vs).1 (lift (P.row r (popped n [] vs).0 σ.frame σ.store) σ) σ.turns (all_size (DoRow r n ∷ k))
+  act_left (DoRow r n) k vs σ = land_left ◌∷◌ k (popped n [] vs).1 (lift (P.row r (popped n [] vs).0 σ.frame σ.store) σ) σ.turns (all_size (DoRow r n ∷ k))
       (lift_turns (P.row r (popped n [] vs).0 σ.frame σ.store) σ) (omega arith)
   act_left (Branch a b) k vs σ = top_left vs σ _ (all_size (Branch a b ∷ k)) (omega arith) (λ v rest. branch_left (truth_of v) a b k rest σ)
-  act_left ForgetTop k vs σ =
-      top_left vs σ _ (all_size (ForgetTop ∷ k)) (omega arith) (λ v rest. simple (ForgetTop ∷ k) k (Void ∷ rest) σ σ (omega arith) (omega arith))
   act_left DropTop k vs σ = top_left vs σ _ (all_size (DropTop ∷ k)) (omega arith) (λ v rest. simple (DropTop ∷ k) k rest σ σ (omega arith) (omega arith))
   act_left (Enter f) k vs σ = enter_left (function_at code f) k σ (all_size (Enter f ∷ k)) (callee_size code f) (omega arith)
   act_left (Leave d) k vs σ =
@@ -277,20 +294,20 @@ module _ {S : Type 0} (P : Prims S) (code : Code) where
   fall_ended d (Done v σ) = refl
   fall_ended d (Stop a σ) = leave_ended a d σ
 
-  over_ended : (d : Depths) (o : Out S Operand) → (call_over P code d o).pending ≡ []
-  over_ended d (Done v σ) = fall_ended d (lift (P.row XsEnd [] σ.frame σ.store) σ)
+  over_ended : (d : Depths) (o : Out S (Unit {0})) → (call_over P code d o).pending ≡ []
+  over_ended d (Done u σ) = fall_ended d (lift (P.row XsEnd [] σ.frame σ.store) σ)
   over_ended d (Stop a σ) = leave_ended a d σ
 
   -- after a function's body
-  body_over : (m : Mach S) (d : Depths) (o : Out S Operand) → Comes P code m (land P ◌∷◌ (DropTop ∷ Leave d ∷ []) [] o) → Comes P code m (call_over P code d o)
-  body_over m d (Done v σ) c = comes_by P code m _ _ c (comes_on P code _ _ (comes_on P code _ _ (comes_at P code _ _ refl)))
+  body_over : (m : Mach S) (d : Depths) (o : Out S (Unit {0})) → Comes P code m (land P passed (Leave d ∷ []) [] o) → Comes P code m (call_over P code d o)
+  body_over m d (Done u σ) c = comes_by P code m _ _ c (comes_on P code _ _ (comes_at P code _ _ refl))
   body_over m d (Stop a σ) c = c
 
   ticks : (turns : ℕ) (f : Function) (d : Depths) (σ : State S)
-      → Comes P code (tick turns (unwind P Spent (Leave d ∷ []) σ) (λ t. run_on (DoTree f.body ∷ DropTop ∷ Leave d ∷ []) [] (entered f t σ)))
-      (call_over P code d (tick turns (Stop Spent σ) (λ t. meaning P f.body (entered f t σ))))
+      → Comes P code (tick turns (unwind P Spent (Leave d ∷ []) σ) (λ t. run_on (DoStmt f.body ∷ Leave d ∷ []) [] (entered f t σ)))
+      (call_over P code d (tick turns (Stop Spent σ) (λ t. exec P f.body (entered f t σ))))
   ticks zero f d σ = comes_at P code _ _ refl
-  ticks (suc t) f d σ = body_over _ d (meaning P f.body (entered f t σ)) (tree_follows P code f.body (DropTop ∷ Leave d ∷ []) [] (entered f t σ))
+  ticks (suc t) f d σ = body_over _ d (exec P f.body (entered f t σ)) (stmt_follows P code f.body (Leave d ∷ []) [] (entered f t σ))
 
   enters : (f : Option Function) (d : Depths) (σ : State S) → Comes P code (enter P f (Leave d ∷ []) σ) (call_over P code d (call_meaning P code f σ))
   enters None d σ = comes_at P code _ _ refl

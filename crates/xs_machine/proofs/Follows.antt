@@ -1,15 +1,15 @@
--- The machine follows the meaning: an induction on the tree.
+-- The machine follows the meaning: inductions on expressions and on statements.
 use Rattle.std.proofs.Common.{◌≡◌, ℕ, suc, Bool, true, false, List, [], ◌∷◌, length, refl, ap, ◌∙◌, arith, Option, Some, None}
 use mathlib.Core.List.{reverse_aux}
 use Rattle.xs_api.specs.declared.api.Abrupt.{Abrupt}
 use Rattle.xs_api.specs.declared.api.Operand.{Operand}
-use Rattle.xs_api.specs.declared.api.Operand.TheVariants.{Void}
-use Rattle.xs_ccheck.specs.TypedTree.{Tree, Literal, Variable, ItemCount, Assign, Binary, Convert, ApiRow, CroakUsage, Register, Block, If, Forget, Declare, Trees, NoTrees, MoreTrees, tree_count, Code}
+use Rattle.xs_perlapi.specs.declared.row.Row.TheVariants.{StSet}
+use Rattle.xs_ctree.specs.TypedTree.{Expr, Literal, Variable, ItemCount, Cast, Binary, Assign, Api, Usage, ToVariable, ToItem, Exprs, NoExprs, MoreExprs, Stmt, Block, Effect, Declare, If, Quit, Register, Stmts, NoStmts, MoreStmts, expr_count, Code}
 use Rattle.xs_machine.specs.Dispatch.{Prims}
 use Rattle.xs_machine.specs.MachineState.{State, Out, Done, Stop, ◌>>=◌, lift, assigned, assign_as, operate, convert, truth_of}
-use Rattle.xs_machine.specs.Cmean.{choose, meaning, meanings, meaning_all}
-use Rattle.xs_machine.specs.Machine.{Work, DoTree, DoTrees, DoBlock, SetVar, Operate, ConvertTop, DoRow, Branch, ForgetTop, DropTop, Mach, popped, run_on, unwind, land, branch_on, step, steps}
-use Rattle.xs_machine.specs.Laws.{MachineFollows}
+use Rattle.xs_machine.specs.Cmean.{choose, dropped, eval, evals, exec, exec_all}
+use Rattle.xs_machine.specs.Machine.{Work, DoExpr, DoExprs, DoStmt, DoStmts, SetVar, Operate, ToType, DoRow, Branch, DropTop, Mach, passed, popped, run_on, unwind, land, branch_on, step, steps}
+use Rattle.xs_machine.specs.Laws.{ExprFollows, MachineFollows}
 use Rattle.xs_machine.proofs.Tops.{popped_all}
 
 module _ {S : Type 0} (P : Prims S) (code : Code) where
@@ -49,9 +49,9 @@ module _ {S : Type 0} (P : Prims S) (code : Code) where
   sized_more n (Done v σ) go h = sized_cons n v (go σ) (h σ)
   sized_more n (Stop a σ) go h = tt
 
-  operands_sized : (xs : Trees) (σ : State S) → Sized (tree_count xs) (meanings P xs σ)
-  operands_sized NoTrees σ = refl
-  operands_sized (MoreTrees t ts) σ = sized_more (tree_count ts) (meaning P t σ) (meanings P ts) (operands_sized ts)
+  operands_sized : (es : Exprs) (σ : State S) → Sized (expr_count es) (evals P es σ)
+  operands_sized NoExprs σ = refl
+  operands_sized (MoreExprs e es) σ = sized_more (expr_count es) (eval P e σ) (evals P es) (operands_sized es)
 
   then_row : (m : Mach S) (n : ℕ) (w : Work) (k : List Work) (vs : List Operand) (o : Out S (List Operand)) (go : List Operand → State S → Out S Operand)
       → Sized n o → Comes m (land P reverse_aux (w ∷ k) vs o) → ((a : Abrupt) (σ : State S) → unwind P a (w ∷ k) σ ≡ unwind P a k σ)
@@ -66,63 +66,83 @@ module _ {S : Type 0} (P : Prims S) (code : Code) where
   cons_operands m k vs v (Done l σ) f = f
   cons_operands m k vs v (Stop a σ) f = f
 
-  choose_follows : (b : Option Bool) (x y : Tree) (k : List Work) (vs : List Operand) (σ : State S) (ox oy : Out S Operand)
-      → Comes (run_on (DoTree x ∷ k) vs σ) (land P ◌∷◌ k vs ox) → Comes (run_on (DoTree y ∷ k) vs σ) (land P ◌∷◌ k vs oy)
-      → Comes (branch_on P b x y k vs σ) (land P ◌∷◌ k vs (choose b σ ox oy))
+  choose_follows : (b : Option Bool) (x y : Stmt) (k : List Work) (vs : List Operand) (σ : State S) (ox oy : Out S (Unit {0}))
+      → Comes (run_on (DoStmt x ∷ k) vs σ) (land P passed k vs ox) → Comes (run_on (DoStmt y ∷ k) vs σ) (land P passed k vs oy)
+      → Comes (branch_on P b x y k vs σ) (land P passed k vs (choose b σ ox oy))
   choose_follows None x y k vs σ ox oy f g = comes_at _ _ refl
   choose_follows (Some true) x y k vs σ ox oy f g = f
   choose_follows (Some false) x y k vs σ ox oy f g = g
 
   mutual
-    pub tree_follows : (t : Tree) (k : List Work) (vs : List Operand) (σ : State S) → Comes (run_on (DoTree t ∷ k) vs σ) (land P ◌∷◌ k vs (meaning P t σ))
-    tree_follows (Literal n) k vs σ = comes_on _ _ (comes_at _ _ refl)
-    tree_follows (Variable x) k vs σ = comes_on _ _ (comes_at _ _ refl)
-    tree_follows ItemCount k vs σ = comes_on _ _ (comes_at _ _ refl)
-    tree_follows (Assign x t e) k vs σ =
-        comes_on _ _ (then_on ◌∷◌ ◌∷◌ _ (SetVar x t ∷ k) k vs vs (meaning P e σ) (λ v σ1. assign_as (assigned t v) x σ1)
-        (tree_follows e (SetVar x t ∷ k) vs σ) (λ a σ1. refl)
+    pub expr_follows : (e : Expr) (k : List Work) (vs : List Operand) (σ : State S) → Comes (run_on (DoExpr e ∷ k) vs σ) (land P ◌∷◌ k vs (eval P e σ))
+    expr_follows (Literal n) k vs σ = comes_on _ _ (comes_at _ _ refl)
+    expr_follows (Variable x) k vs σ = comes_on _ _ (comes_at _ _ refl)
+    expr_follows ItemCount k vs σ = comes_on _ _ (comes_at _ _ refl)
+    expr_follows (Cast t e) k vs σ =
+        comes_on _ _ (then_on ◌∷◌ ◌∷◌ _ (ToType t ∷ k) k vs vs (eval P e σ) (λ v σ1. convert t v σ1)
+        (expr_follows e (ToType t ∷ k) vs σ) (λ a σ1. refl)
         (λ v σ1. comes_on _ _ (comes_at _ _ refl)))
-    tree_follows (Binary op a b) k vs σ =
-        comes_on _ _ (then_on ◌∷◌ ◌∷◌ _ (DoTree b ∷ Operate op ∷ k) k vs vs (meaning P a σ) (λ v σ1. meaning P b σ1 >>= λ u σ2. operate op v u σ2)
-        (tree_follows a (DoTree b ∷ Operate op ∷ k) vs σ) (λ x σ1. refl)
-        (λ v σ1. then_on ◌∷◌ ◌∷◌ _ (Operate op ∷ k) k (v ∷ vs) vs (meaning P b σ1) (λ u σ2. operate op v u σ2)
-        (tree_follows b (Operate op ∷ k) (v ∷ vs) σ1) (λ x σ2. refl)
+    expr_follows (Binary op a b) k vs σ =
+        comes_on _ _ (then_on ◌∷◌ ◌∷◌ _ (DoExpr b ∷ Operate op ∷ k) k vs vs (eval P a σ) (λ v σ1. eval P b σ1 >>= λ u σ2. operate op v u σ2)
+        (expr_follows a (DoExpr b ∷ Operate op ∷ k) vs σ) (λ x σ1. refl)
+        (λ v σ1. then_on ◌∷◌ ◌∷◌ _ (Operate op ∷ k) k (v ∷ vs) vs (eval P b σ1) (λ u σ2. operate op v u σ2)
+        (expr_follows b (Operate op ∷ k) (v ∷ vs) σ1) (λ x σ2. refl)
         (λ u σ2. comes_on _ _ (comes_at _ _ refl))))
-    tree_follows (Convert kind e) k vs σ =
-        comes_on _ _ (then_on ◌∷◌ ◌∷◌ _ (ConvertTop kind ∷ k) k vs vs (meaning P e σ) (λ v σ1. convert kind v σ1)
-        (tree_follows e (ConvertTop kind ∷ k) vs σ) (λ a σ1. refl)
+    expr_follows (Assign at (ToVariable x t) e) k vs σ =
+        comes_on _ _ (then_on ◌∷◌ ◌∷◌ _ (SetVar x t ∷ k) k vs vs (eval P e σ) (λ v σ1. assign_as (assigned t v) x σ1)
+        (expr_follows e (SetVar x t ∷ k) vs σ) (λ a σ1. refl)
         (λ v σ1. comes_on _ _ (comes_at _ _ refl)))
-    tree_follows (ApiRow r xs) k vs σ =
-        comes_on _ _ (then_row _ (tree_count xs) (DoRow r (tree_count xs)) k vs (meanings P xs σ) (λ l σ1. lift (P.row r l σ1.frame σ1.store) σ1)
-        (operands_sized xs σ) (trees_follow xs (DoRow r (tree_count xs) ∷ k) vs σ) (λ a σ1. refl)
+    expr_follows (Assign at (ToItem i) e) k vs σ =
+        comes_on _ _ (then_on ◌∷◌ ◌∷◌ _ (DoExpr i ∷ DoRow StSet 2 ∷ k) k vs vs (eval P e σ)
+        (λ v σ1. eval P i σ1 >>= λ u σ2. lift (P.row StSet (v ∷ u ∷ []) σ2.frame σ2.store) σ2)
+        (expr_follows e (DoExpr i ∷ DoRow StSet 2 ∷ k) vs σ) (λ x σ1. refl)
+        (λ v σ1. then_on ◌∷◌ ◌∷◌ _ (DoRow StSet 2 ∷ k) k (v ∷ vs) vs (eval P i σ1)
+        (λ u σ2. lift (P.row StSet (v ∷ u ∷ []) σ2.frame σ2.store) σ2)
+        (expr_follows i (DoRow StSet 2 ∷ k) (v ∷ vs) σ1) (λ x σ2. refl)
+        (λ u σ2. comes_on _ _ (comes_at _ _ refl))))
+    expr_follows (Api at r es) k vs σ =
+        comes_on _ _ (then_row _ (expr_count es) (DoRow r (expr_count es)) k vs (evals P es σ) (λ l σ1. lift (P.row r l σ1.frame σ1.store) σ1)
+        (operands_sized es σ) (exprs_follow es (DoRow r (expr_count es) ∷ k) vs σ) (λ a σ1. refl)
         (λ l σ1 e. comes_on _ _ (comes_at _ _ (ap (λ (x : List Operand × List Operand). land P ◌∷◌ k x.1 (lift (P.row r x.0 σ1.frame σ1.store) σ1)) e))))
-    tree_follows (CroakUsage text) k vs σ = comes_on _ _ (comes_at _ _ refl)
-    tree_follows (Register name f) k vs σ = comes_on _ _ (comes_at _ _ refl)
-    tree_follows (Block ts) k vs σ = comes_on _ _ (block_follows ts k vs σ)
-    tree_follows (If e a b) k vs σ =
-        comes_on _ _ (then_on ◌∷◌ ◌∷◌ _ (Branch a b ∷ k) k vs vs (meaning P e σ) (λ v σ1. choose (truth_of v) σ1 (meaning P a σ1) (meaning P b σ1))
-        (tree_follows e (Branch a b ∷ k) vs σ) (λ x σ1. refl)
-        (λ v σ1. comes_on _ _ (choose_follows (truth_of v) a b k vs σ1 _ _ (tree_follows a k vs σ1) (tree_follows b k vs σ1))))
-    tree_follows (Forget e) k vs σ =
-        comes_on _ _ (then_on ◌∷◌ ◌∷◌ _ (ForgetTop ∷ k) k vs vs (meaning P e σ) (λ v σ1. Done Void σ1)
-        (tree_follows e (ForgetTop ∷ k) vs σ) (λ a σ1. refl)
-        (λ v σ1. comes_on _ _ (comes_at _ _ refl)))
-    tree_follows (Declare x) k vs σ = comes_on _ _ (comes_at _ _ refl)
+    expr_follows (Usage at text) k vs σ = comes_on _ _ (comes_at _ _ refl)
 
-    trees_follow : (xs : Trees) (k : List Work) (vs : List Operand) (σ : State S)
-        → Comes (run_on (DoTrees xs ∷ k) vs σ) (land P reverse_aux k vs (meanings P xs σ))
-    trees_follow NoTrees k vs σ = comes_on _ _ (comes_at _ _ refl)
-    trees_follow (MoreTrees t ts) k vs σ =
-        comes_on _ _ (then_on ◌∷◌ reverse_aux _ (DoTrees ts ∷ k) k vs vs (meaning P t σ) (λ v σ1. meanings P ts σ1 >>= λ l σ2. Done (v ∷ l) σ2)
-        (tree_follows t (DoTrees ts ∷ k) vs σ) (λ a σ1. refl)
-        (λ v σ1. cons_operands _ k vs v (meanings P ts σ1) (trees_follow ts k (v ∷ vs) σ1)))
+    exprs_follow : (es : Exprs) (k : List Work) (vs : List Operand) (σ : State S)
+        → Comes (run_on (DoExprs es ∷ k) vs σ) (land P reverse_aux k vs (evals P es σ))
+    exprs_follow NoExprs k vs σ = comes_on _ _ (comes_at _ _ refl)
+    exprs_follow (MoreExprs e es) k vs σ =
+        comes_on _ _ (then_on ◌∷◌ reverse_aux _ (DoExprs es ∷ k) k vs vs (eval P e σ) (λ v σ1. evals P es σ1 >>= λ l σ2. Done (v ∷ l) σ2)
+        (expr_follows e (DoExprs es ∷ k) vs σ) (λ a σ1. refl)
+        (λ v σ1. cons_operands _ k vs v (evals P es σ1) (exprs_follow es k (v ∷ vs) σ1)))
 
-    block_follows : (ts : Trees) (k : List Work) (vs : List Operand) (σ : State S) → Comes (run_on (DoBlock ts ∷ k) vs σ) (land P ◌∷◌ k vs (meaning_all P ts σ))
-    block_follows NoTrees k vs σ = comes_on _ _ (comes_at _ _ refl)
-    block_follows (MoreTrees t ts) k vs σ =
-        comes_on _ _ (then_on ◌∷◌ ◌∷◌ _ (DropTop ∷ DoBlock ts ∷ k) k vs vs (meaning P t σ) (λ v σ1. meaning_all P ts σ1)
-        (tree_follows t (DropTop ∷ DoBlock ts ∷ k) vs σ) (λ a σ1. refl)
-        (λ v σ1. comes_on _ _ (block_follows ts k vs σ1)))
+  -- an expression whose value is dropped
+  dropped_follows : (e : Expr) (k : List Work) (vs : List Operand) (σ : State S)
+      → Comes (run_on (DoExpr e ∷ DropTop ∷ k) vs σ) (land P passed k vs (dropped (eval P e σ)))
+  dropped_follows e k vs σ =
+      then_on ◌∷◌ passed _ (DropTop ∷ k) k vs vs (eval P e σ) (λ v σ1. Done tt σ1)
+      (expr_follows e (DropTop ∷ k) vs σ) (λ a σ1. refl)
+      (λ v σ1. comes_on _ _ (comes_at _ _ refl))
+
+  mutual
+    pub stmt_follows : (s : Stmt) (k : List Work) (vs : List Operand) (σ : State S) → Comes (run_on (DoStmt s ∷ k) vs σ) (land P passed k vs (exec P s σ))
+    stmt_follows (Block slots ss) k vs σ = comes_on _ _ (stmts_follow ss k vs σ)
+    stmt_follows (Effect e) k vs σ = comes_on _ _ (dropped_follows e k vs σ)
+    stmt_follows (Declare at x) k vs σ = comes_on _ _ (comes_at _ _ refl)
+    stmt_follows (If at e a b) k vs σ =
+        comes_on _ _ (then_on ◌∷◌ passed _ (Branch a b ∷ k) k vs vs (eval P e σ) (λ v σ1. choose (truth_of v) σ1 (exec P a σ1) (exec P b σ1))
+        (expr_follows e (Branch a b ∷ k) vs σ) (λ x σ1. refl)
+        (λ v σ1. comes_on _ _ (choose_follows (truth_of v) a b k vs σ1 _ _ (stmt_follows a k vs σ1) (stmt_follows b k vs σ1))))
+    stmt_follows (Quit at e) k vs σ = comes_on _ _ (dropped_follows e k vs σ)
+    stmt_follows (Register name f) k vs σ = comes_on _ _ (comes_at _ _ refl)
+
+    stmts_follow : (ss : Stmts) (k : List Work) (vs : List Operand) (σ : State S) → Comes (run_on (DoStmts ss ∷ k) vs σ) (land P passed k vs (exec_all P ss σ))
+    stmts_follow NoStmts k vs σ = comes_on _ _ (comes_at _ _ refl)
+    stmts_follow (MoreStmts s ss) k vs σ =
+        comes_on _ _ (then_on passed passed _ (DoStmts ss ∷ k) k vs vs (exec P s σ) (λ u σ1. exec_all P ss σ1)
+        (stmt_follows s (DoStmts ss ∷ k) vs σ) (λ a σ1. refl)
+        (λ u σ1. stmts_follow ss k vs σ1))
+
+pub exprs_run : {S : Type 0} (P : Prims S) (code : Code) → ExprFollows P code
+exprs_run P code e k vs σ = (expr_follows P code e k vs σ).by 0
 
 pub follows : {S : Type 0} (P : Prims S) (code : Code) → MachineFollows P code
-follows P code t k vs σ = (tree_follows P code t k vs σ).by 0
+follows P code s k vs σ = (stmt_follows P code s k vs σ).by 0

@@ -1,3 +1,5 @@
 pub mod Follows
 pub mod Ends
 pub mod Tops
+pub mod BareCode
+pub mod Operands

@@ -1,6 +1,5 @@
 -- The machine, which works through a list of pending work one step at a time.
 use Rattle.std.specs.Prelude.{ℕ, zero, suc, ◌+◌, ◌*◌, max, Bool, true, false, if◌then◌else◌, nat_lt, List, [], ◌∷◌, ◌++◌, length, take, replicate, Option, Some, None, codes}
-use Rattle.xs_values.specs.declared.kind.Kind.{Kind}
 use Rattle.xs_values.specs.declared.operator.Op.{Op}
 use Rattle.xs_values.specs.declared.trap.Trap.TheVariants as trap
 use Rattle.xs_api.specs.declared.api.Abrupt.{Abrupt}
@@ -9,33 +8,34 @@ use Rattle.xs_api.specs.declared.api.Frame.{Frame}
 use Rattle.xs_api.specs.declared.api.Operand.{Operand}
 use Rattle.xs_api.specs.declared.api.Operand.TheVariants.{Unset, Num, Void}
 use Rattle.xs_perlapi.specs.declared.row.Row.{Row}
-use Rattle.xs_perlapi.specs.declared.row.Row.TheVariants.{XsEnd}
-use Rattle.xs_ccheck.specs.declared.code.ValueType.{ValueType}
+use Rattle.xs_perlapi.specs.declared.row.Row.TheVariants.{StSet, XsEnd}
+use Rattle.xs_ctree.specs.declared.value_type.ValueType.{ValueType}
 use Rattle.xs_machine.specs.declared.machine.Outcome.{Outcome}
 use Rattle.xs_machine.specs.declared.machine.Outcome.TheVariants as outcome
 use Rattle.xs_api.specs.declared.stacks.Depths.{Depths}
-use Rattle.xs_ccheck.specs.Functions.{function_at, boot_at, name_of}
-use Rattle.xs_ccheck.specs.TypedTree.{Tree, Literal, Variable, ItemCount, Assign, Binary, Convert, ApiRow, CroakUsage, Register, Block, If, Forget, Declare, Trees, NoTrees, MoreTrees, tree_count, Function, Code}
+use Rattle.xs_ctree.specs.Functions.{function_at, boot_at, name_of}
+use Rattle.xs_ctree.specs.TypedTree.{Expr, Literal, Variable, ItemCount, Cast, Binary, Assign, Api, Usage, Target, ToVariable, ToItem, Exprs, NoExprs, MoreExprs, Stmt, Block, Effect, Declare, If, Quit, Register, Stmts, NoStmts, MoreStmts, expr_count, Function, Code}
 use Rattle.xs_api.specs.World.{World, Swept, Clean, Dirty, depths_of, new_cells, registered, sweep}
 use Rattle.xs_machine.specs.Dispatch.{Prims}
 use Rattle.xs_machine.specs.MachineState.{State, Out, Done, Stop, tick, lift, with_store, read_var, write_var, assigned, assign_as, item_count, operate, convert, truth_of}
 use Rattle.xs_api.specs.Limits.{most_items}
 use Rattle.xs_machine.specs.Dispatch.{counted_rows}
-use Rattle.xs_machine.specs.Cmean.{meaning}
+use Rattle.xs_machine.specs.Cmean.{dropped, exec}
 
--- A piece of pending work: a tree; operands; statements; what is done with the topmost operands;
--- one of two trees; the entry of a function by its number, None where no function has the name; and
--- the end of an XS function, with the heights of the stacks at its entry.
+-- A piece of pending work: an expression; operands; a statement; statements; what is done with the
+-- topmost operands; one of two statements; the entry of a function by its number, None where no
+-- function has the name; and the end of an XS function, with the heights of the stacks at its
+-- entry.
 pub data Work : Type 0 where
-  DoTree : Tree → Work
-  DoTrees : Trees → Work
-  DoBlock : Trees → Work
+  DoExpr : Expr → Work
+  DoExprs : Exprs → Work
+  DoStmt : Stmt → Work
+  DoStmts : Stmts → Work
   SetVar : ℕ → ValueType → Work
   Operate : Op → Work
-  ConvertTop : Kind → Work
+  ToType : ValueType → Work
   DoRow : Row → ℕ → Work
-  Branch : Tree → Tree → Work
-  ForgetTop : Work
+  Branch : Stmt → Stmt → Work
   DropTop : Work
   Enter : Option ℕ → Work
   Leave : Depths → Work
@@ -74,7 +74,7 @@ module _ {S : Type 0} where
 
   -- the variables and the turns at the entry of a function
   abbrev pub entered : Function → ℕ → State S → State S
-  entered f turns σ = record σ { vars = replicate f.slots Unset; turns = turns }
+  entered f turns σ = record σ { vars = replicate (length f.slots) Unset; turns = turns }
 
   -- where operands are missing
   abbrev pub short_of : State S → Mach S
@@ -89,6 +89,10 @@ module _ {S : Type 0} where
   swept_to text (Clean s) σ = halt (outcome.Croaked text) (with_store s σ)
   swept_to text (Dirty t s) σ = halt (outcome.Trapped t) (with_store s σ)
 
+-- what a statement leaves on the operands
+abbrev pub passed : {A : Type 0} → A → List Operand → List Operand
+passed a vs = vs
+
 module _ {S : Type 0} (P : Prims S) where
   -- A run leaves an XS function: a croak frees the temporaries that were made since its entry and
   -- cuts the stacks.
@@ -100,15 +104,15 @@ module _ {S : Type 0} (P : Prims S) where
   abbrev pub unwind : Abrupt → List Work → State S → Mach S
   unwind a [] σ = halt (outcome_of a) σ
   unwind a (Leave d ∷ k) σ = at_leave a d σ
-  unwind a (DoTree t ∷ k) σ = unwind a k σ
-  unwind a (DoTrees ts ∷ k) σ = unwind a k σ
-  unwind a (DoBlock ts ∷ k) σ = unwind a k σ
+  unwind a (DoExpr e ∷ k) σ = unwind a k σ
+  unwind a (DoExprs es ∷ k) σ = unwind a k σ
+  unwind a (DoStmt s ∷ k) σ = unwind a k σ
+  unwind a (DoStmts ss ∷ k) σ = unwind a k σ
   unwind a (SetVar x t ∷ k) σ = unwind a k σ
   unwind a (Operate op ∷ k) σ = unwind a k σ
-  unwind a (ConvertTop kind ∷ k) σ = unwind a k σ
+  unwind a (ToType t ∷ k) σ = unwind a k σ
   unwind a (DoRow r n ∷ k) σ = unwind a k σ
   unwind a (Branch s t ∷ k) σ = unwind a k σ
-  unwind a (ForgetTop ∷ k) σ = unwind a k σ
   unwind a (DropTop ∷ k) σ = unwind a k σ
   unwind a (Enter f ∷ k) σ = unwind a k σ
 
@@ -123,52 +127,62 @@ module _ {S : Type 0} (P : Prims S) where
   fall_off d (Done v σ) = halt (outcome.Returned []) σ
   fall_off d (Stop a σ) = at_leave a d σ
 
-  abbrev pub branch_on : Option Bool → Tree → Tree → List Work → List Operand → State S → Mach S
+  abbrev pub branch_on : Option Bool → Stmt → Stmt → List Work → List Operand → State S → Mach S
   branch_on None a b k vs σ = unwind (Traps trap.Kind) k σ
-  branch_on (Some true) a b k vs σ = run_on (DoTree a ∷ k) vs σ
-  branch_on (Some false) a b k vs σ = run_on (DoTree b ∷ k) vs σ
+  branch_on (Some true) a b k vs σ = run_on (DoStmt a ∷ k) vs σ
+  branch_on (Some false) a b k vs σ = run_on (DoStmt b ∷ k) vs σ
 
   -- the entry of a function, which uses a turn; a name that no function has uses none
   abbrev pub enter : Option Function → List Work → State S → Mach S
   enter None k σ = unwind (Croaks (undefined_text σ.frame.called)) k σ
   enter (Some f) k σ =
-      tick σ.turns (unwind Spent k σ) (λ turns. run_on (DoTree f.body ∷ DropTop ∷ k) []
+      tick σ.turns (unwind Spent k σ) (λ turns. run_on (DoStmt f.body ∷ k) []
       (entered f turns σ))
 
-  -- one tree
-  abbrev pub act_tree : Tree → List Work → List Operand → State S → Mach S
-  act_tree (Literal n) k vs σ = run_on k (Num n ∷ vs) σ
-  act_tree (Variable x) k vs σ = land ◌∷◌ k vs (read_var x σ)
-  act_tree ItemCount k vs σ = run_on k (item_count σ ∷ vs) σ
-  act_tree (Assign x t e) k vs σ = run_on (DoTree e ∷ SetVar x t ∷ k) vs σ
-  act_tree (Binary op a b) k vs σ = run_on (DoTree a ∷ DoTree b ∷ Operate op ∷ k) vs σ
-  act_tree (Convert kind e) k vs σ = run_on (DoTree e ∷ ConvertTop kind ∷ k) vs σ
-  act_tree (ApiRow r xs) k vs σ = run_on (DoTrees xs ∷ DoRow r (tree_count xs) ∷ k) vs σ
-  act_tree (CroakUsage text) k vs σ =
+  -- an assignment to a place, of an expression
+  abbrev pub act_assign : Target → Expr → List Work → List Operand → State S → Mach S
+  act_assign (ToVariable x t) e k vs σ = run_on (DoExpr e ∷ SetVar x t ∷ k) vs σ
+  act_assign (ToItem i) e k vs σ = run_on (DoExpr e ∷ DoExpr i ∷ DoRow StSet 2 ∷ k) vs σ
+
+  -- one expression
+  abbrev pub act_expr : Expr → List Work → List Operand → State S → Mach S
+  act_expr (Literal n) k vs σ = run_on k (Num n ∷ vs) σ
+  act_expr (Variable x) k vs σ = land ◌∷◌ k vs (read_var x σ)
+  act_expr ItemCount k vs σ = run_on k (item_count σ ∷ vs) σ
+  act_expr (Cast t e) k vs σ = run_on (DoExpr e ∷ ToType t ∷ k) vs σ
+  act_expr (Binary op a b) k vs σ = run_on (DoExpr a ∷ DoExpr b ∷ Operate op ∷ k) vs σ
+  act_expr (Assign at to e) k vs σ = act_assign to e k vs σ
+  act_expr (Api at r es) k vs σ = run_on (DoExprs es ∷ DoRow r (expr_count es) ∷ k) vs σ
+  act_expr (Usage at text) k vs σ =
       land ◌∷◌ k vs (lift (P.croak_usage text σ.frame σ.store) σ)
-  act_tree (Register name f) k vs σ =
-      land ◌∷◌ k vs (lift (P.register name f σ.frame σ.store) σ)
-  act_tree (Block ts) k vs σ = run_on (DoBlock ts ∷ k) vs σ
-  act_tree (If e a b) k vs σ = run_on (DoTree e ∷ Branch a b ∷ k) vs σ
-  act_tree (Forget e) k vs σ = run_on (DoTree e ∷ ForgetTop ∷ k) vs σ
-  act_tree (Declare x) k vs σ = run_on k (Void ∷ vs) (write_var x Unset σ)
+
+  -- one statement
+  abbrev pub act_stmt : Stmt → List Work → List Operand → State S → Mach S
+  act_stmt (Block slots ss) k vs σ = run_on (DoStmts ss ∷ k) vs σ
+  act_stmt (Effect e) k vs σ = run_on (DoExpr e ∷ DropTop ∷ k) vs σ
+  act_stmt (Declare at x) k vs σ = run_on k vs (write_var x Unset σ)
+  act_stmt (If at e a b) k vs σ = run_on (DoExpr e ∷ Branch a b ∷ k) vs σ
+  act_stmt (Quit at e) k vs σ = run_on (DoExpr e ∷ DropTop ∷ k) vs σ
+  act_stmt (Register name f) k vs σ =
+      land passed k vs (dropped (lift (P.register name f σ.frame σ.store) σ))
 
   module _ (code : Code) where
     -- one piece of work
     abbrev pub act : Work → List Work → List Operand → State S → Mach S
-    act (DoTree t) k vs σ = act_tree t k vs σ
-    act (DoTrees NoTrees) k vs σ = run_on k vs σ
-    act (DoTrees (MoreTrees t ts)) k vs σ = run_on (DoTree t ∷ DoTrees ts ∷ k) vs σ
-    act (DoBlock NoTrees) k vs σ = run_on k (Void ∷ vs) σ
-    act (DoBlock (MoreTrees t ts)) k vs σ = run_on (DoTree t ∷ DropTop ∷ DoBlock ts ∷ k) vs σ
-    act (SetVar x t) k vs σ = on_top vs σ (λ v rest. land ◌∷◌ k rest (assign_as (assigned t v) x σ))
+    act (DoExpr e) k vs σ = act_expr e k vs σ
+    act (DoExprs NoExprs) k vs σ = run_on k vs σ
+    act (DoExprs (MoreExprs e es)) k vs σ = run_on (DoExpr e ∷ DoExprs es ∷ k) vs σ
+    act (DoStmt s) k vs σ = act_stmt s k vs σ
+    act (DoStmts NoStmts) k vs σ = run_on k vs σ
+    act (DoStmts (MoreStmts s ss)) k vs σ = run_on (DoStmt s ∷ DoStmts ss ∷ k) vs σ
+    act (SetVar x t) k vs σ =
+        on_top vs σ (λ v rest. land ◌∷◌ k rest (assign_as (assigned t v) x σ))
     act (Operate op) k vs σ =
-        on_top vs σ (λ u rest. on_top rest σ (λ v rest1. land ◌∷◌ k rest1 (operate op v u σ)))
-    act (ConvertTop kind) k vs σ = on_top vs σ (λ v rest. land ◌∷◌ k rest (convert kind v σ))
+        on_top vs σ (λ u rest. on_top rest σ (λ v rest2. land ◌∷◌ k rest2 (operate op v u σ)))
+    act (ToType t) k vs σ = on_top vs σ (λ v rest. land ◌∷◌ k rest (convert t v σ))
     act (DoRow r n) k vs σ =
         land ◌∷◌ k (popped n [] vs).1 (lift (P.row r (popped n [] vs).0 σ.frame σ.store) σ)
     act (Branch a b) k vs σ = on_top vs σ (λ v rest. branch_on (truth_of v) a b k rest σ)
-    act ForgetTop k vs σ = on_top vs σ (λ v rest. run_on k (Void ∷ rest) σ)
     act DropTop k vs σ = on_top vs σ (λ v rest. run_on k rest σ)
     act (Enter f) k vs σ = enter (function_at code f) k σ
     act (Leave d) k vs σ = fall_off d (lift (P.row XsEnd [] σ.frame σ.store) σ)
@@ -186,48 +200,60 @@ module _ {S : Type 0} (P : Prims S) where
     steps (suc n) m = steps n (step m)
 
     -- What the call of a function means: its body's meaning, after the turn that its entry uses.
-    abbrev pub call_meaning : Option Function → State S → Out S Operand
+    abbrev pub call_meaning : Option Function → State S → Out S (Unit {0})
     call_meaning None σ = Stop (Croaks (undefined_text σ.frame.called)) σ
     call_meaning (Some f) σ =
-        tick σ.turns (Stop Spent σ) (λ turns. meaning P f.body (entered f turns σ))
+        tick σ.turns (Stop Spent σ) (λ turns. exec P f.body (entered f turns σ))
 
     -- where the machine stands once a call is over
-    abbrev pub call_over : Depths → Out S Operand → Mach S
+    abbrev pub call_over : Depths → Out S (Unit {0}) → Mach S
     call_over d (Done v σ) = fall_off d (lift (P.row XsEnd [] σ.frame σ.store) σ)
     call_over d (Stop a σ) = at_leave a d σ
 
 -- ---- how much work there is at most
 
 abbrev mutual
-  pub tree_size : Tree → ℕ
-  tree_size (Literal n) = 1
-  tree_size (Variable x) = 1
-  tree_size ItemCount = 1
-  tree_size (Assign x t e) = tree_size e + 2
-  tree_size (Binary op a b) = tree_size a + tree_size b + 2
-  tree_size (Convert kind e) = tree_size e + 2
-  tree_size (ApiRow r xs) = trees_size xs + 2
-  tree_size (CroakUsage text) = 1
-  tree_size (Register name f) = 1
-  tree_size (Block ts) = trees_size ts + 1
-  tree_size (If e a b) = tree_size e + (tree_size a + tree_size b) + 2
-  tree_size (Forget e) = tree_size e + 2
-  tree_size (Declare x) = 1
+  pub expr_size : Expr → ℕ
+  expr_size (Literal n) = 1
+  expr_size (Variable x) = 1
+  expr_size ItemCount = 1
+  expr_size (Cast t e) = expr_size e + 2
+  expr_size (Binary op a b) = expr_size a + expr_size b + 2
+  expr_size (Assign at to e) = target_size to + expr_size e + 2
+  expr_size (Api at r es) = exprs_size es + 2
+  expr_size (Usage at text) = 1
 
-  pub trees_size : Trees → ℕ
-  trees_size NoTrees = 1
-  trees_size (MoreTrees t ts) = tree_size t + trees_size ts + 2
+  pub exprs_size : Exprs → ℕ
+  exprs_size NoExprs = 1
+  exprs_size (MoreExprs e es) = expr_size e + exprs_size es + 1
+
+  pub target_size : Target → ℕ
+  target_size (ToVariable x t) = 0
+  target_size (ToItem e) = expr_size e
+
+abbrev mutual
+  pub stmt_size : Stmt → ℕ
+  stmt_size (Block slots ss) = stmts_size ss + 1
+  stmt_size (Effect e) = expr_size e + 2
+  stmt_size (Declare at x) = 1
+  stmt_size (If at e a b) = expr_size e + (stmt_size a + stmt_size b) + 2
+  stmt_size (Quit at e) = expr_size e + 2
+  stmt_size (Register name f) = 1
+
+  pub stmts_size : Stmts → ℕ
+  stmts_size NoStmts = 1
+  stmts_size (MoreStmts s ss) = stmt_size s + stmts_size ss + 1
 
 abbrev pub work_size : Work → ℕ
-work_size (DoTree t) = tree_size t
-work_size (DoTrees ts) = trees_size ts
-work_size (DoBlock ts) = trees_size ts
+work_size (DoExpr e) = expr_size e
+work_size (DoExprs es) = exprs_size es
+work_size (DoStmt s) = stmt_size s
+work_size (DoStmts ss) = stmts_size ss
 work_size (SetVar x t) = 1
 work_size (Operate op) = 1
-work_size (ConvertTop kind) = 1
+work_size (ToType t) = 1
 work_size (DoRow r n) = 1
-work_size (Branch a b) = tree_size a + tree_size b + 1
-work_size ForgetTop = 1
+work_size (Branch a b) = stmt_size a + stmt_size b + 1
 work_size DropTop = 1
 work_size (Enter f) = 1
 work_size (Leave d) = 1
@@ -239,7 +265,7 @@ all_size (w ∷ k) = work_size w + all_size k
 -- the most work that the entry of a function brings
 abbrev pub entry_size : List Function → ℕ
 entry_size [] = 1
-entry_size (f ∷ all) = max (tree_size f.body + 1) (entry_size all)
+entry_size (f ∷ all) = max (stmt_size f.body + 1) (entry_size all)
 
 -- more than the steps that are left
 abbrev pub left : {S : Type 0} → Code → Mach S → ℕ

@@ -13,8 +13,8 @@ use Rattle.xs_api.specs.declared.api.Abrupt.TheVariants.{Traps}
 use Rattle.xs_api.specs.declared.api.Frame.{Frame}
 use Rattle.xs_api.specs.declared.api.Operand.{Operand}
 use Rattle.xs_api.specs.declared.api.Operand.TheVariants.{Unset, Num, Scalar, Void}
-use Rattle.xs_ccheck.specs.declared.code.ValueType.{ValueType}
-use Rattle.xs_ccheck.specs.declared.code.ValueType.TheVariants as type_of
+use Rattle.xs_ctree.specs.declared.value_type.ValueType.{ValueType}
+use Rattle.xs_ctree.specs.declared.value_type.ValueType.TheVariants as type_of
 use Rattle.xs_api.specs.Effects.{Effect, Gives, Ends}
 
 -- the variables of the present function by their slots, what it knows of its call, what the rows
@@ -59,6 +59,7 @@ assigned type_of.Scalar (Num n) = None
 assigned type_of.Scalar Unset = None
 assigned type_of.Scalar Void = None
 assigned type_of.Void v = None
+assigned type_of.Faulty v = None
 
 module _ {S : Type 0} where
   infixl 10 ◌>>=◌
@@ -122,6 +123,6 @@ module _ {S : Type 0} where
   operate op (Scalar p) v σ = Stop (Traps trap.Kind) σ
   operate op Void v σ = Stop (Traps trap.Kind) σ
 
-  -- a conversion of a number
-  abbrev pub convert : Kind → Operand → State S → Out S Operand
-  convert k v σ = given (assigned (type_of.Number k) v) σ
+  -- a cast to a type
+  abbrev pub convert : ValueType → Operand → State S → Out S Operand
+  convert t v σ = given (assigned t v) σ

@@ -2,33 +2,32 @@
 use Rattle.std.specs.Prelude.{◌≡◌, ℕ, List, [], ◌∷◌, map, reverse, Result}
 use Rattle.xs_values.specs.declared.trap.Trap.{Trap}
 use Rattle.xs_api.specs.declared.api.Operand.{Operand}
-use Rattle.xs_ccheck.specs.declared.code.Typed.{Typed}
+use Rattle.xs_ctree.specs.declared.typed.Typed.{Typed}
 use Rattle.xs_machine.specs.declared.machine.Machine.{Machine}
 use Rattle.xs_machine.specs.declared.machine.Outcome.TheVariants as outcome
 use Rattle.xs_machine.specs.declared.machine.Task.{Task}
 use Rattle.xs_machine.specs.declared.machine.Task.TheVariants as task
-use Rattle.xs_ccheck.specs.Arena.{tree_at, trees_at}
-use Rattle.xs_ccheck.specs.Functions.{code_of}
-use Rattle.xs_machine.specs.Machine.{Mach, Work, short_of, with_world, DoTree, DoTrees, DoBlock, SetVar, Operate, ConvertTop, DoRow, Branch, ForgetTop, DropTop, Enter, Leave}
+use Rattle.xs_ctree.specs.Arena.{ranged}
+use Rattle.xs_ctree.specs.Functions.{code_of, expr_in, stmt_in}
+use Rattle.xs_machine.specs.Machine.{Mach, Work, short_of, with_world, DoExpr, DoExprs, DoStmt, DoStmts, SetVar, Operate, ToType, DoRow, Branch, DropTop, Enter, Leave}
 use Rattle.xs_machine.specs.MachineState.{State, given_or, operate}
 use Rattle.xs_api.specs.declared.api.Stop.{Stop}
 use Rattle.xs_values.specs.declared.plain.Plain.{Plain}
 use Rattle.xs_values.specs.declared.operator.Op.{Op}
-use Rattle.xs_ccheck.specs.TypedTree.{Code}
+use Rattle.xs_ctree.specs.TypedTree.{Code, exprs_of, stmts_of}
 use Rattle.xs_api.specs.PerlViews.{MakesTemporary, world_of}
 use Rattle.xs_api.specs.World.{World}
 
 abbrev pub task_of : Typed → Task → Work
-task_of t (task.DoTree i) = DoTree (tree_at t.texts.items t.nodes.items i)
-task_of t (task.DoTrees i) = DoTrees (trees_at t.texts.items t.nodes.items i)
-task_of t (task.DoBlock i) = DoBlock (trees_at t.texts.items t.nodes.items i)
+task_of t (task.DoExpr i) = DoExpr (expr_in t i)
+task_of t (task.DoExprs r) = DoExprs (exprs_of (map (expr_in t) (ranged t.parts.items r)))
+task_of t (task.DoStmt i) = DoStmt (stmt_in t i)
+task_of t (task.DoStmts r) = DoStmts (stmts_of (map (stmt_in t) (ranged t.parts.items r)))
 task_of t (task.SetVar x ty) = SetVar x ty
 task_of t (task.Operate op) = Operate op
-task_of t (task.ConvertTop k) = ConvertTop k
+task_of t (task.ToType ty) = ToType ty
 task_of t (task.DoRow r n) = DoRow r n
-task_of t (task.Branch a b) =
-    Branch (tree_at t.texts.items t.nodes.items a) (tree_at t.texts.items t.nodes.items b)
-task_of t task.ForgetTop = ForgetTop
+task_of t (task.Branch a b) = Branch (stmt_in t a) (stmt_in t b)
 task_of t task.DropTop = DropTop
 task_of t (task.Enter f) = Enter f
 task_of t (task.Leave d) = Leave d

@@ -5,7 +5,7 @@ ghost use Rattle.xs_api.specs.Rows as rows;
 ghost use Rattle.xs_machine.specs.Dispatch as dispatch;
 
 use xs_api::{Abrupt, Frame, Halt, Operand, Perl};
-use xs_ccheck::Typed;
+use xs_ctree::Typed;
 use xs_perlapi::Row;
 use xs_values::{Plain, Trap};
 

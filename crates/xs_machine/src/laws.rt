@@ -1,11 +1,13 @@
 //! Laws above the machine. These functions do nothing: their contracts are what is proved.
-ghost use Rattle.xs_machine.specs.Laws.{CallMeans, MachineFollows, RunEnds};
+ghost use Rattle.xs_machine.specs.Laws.{CallMeans, ExprFollows, MachineFollows, PlacesDoNotMatter, RunEnds};
 ghost use Rattle.xs_machine.specs.Dispatch.{counted_rows};
-ghost use Rattle.xs_ccheck.specs.TypedTree.{Code};
+ghost use Rattle.xs_ctree.specs.TypedTree.{Code};
 
-/// From a tree with any work after it the machine comes to where the tree's meaning says.
+/// From an expression, and from a statement, with any work after it the machine comes to where its
+/// meaning says.
 pub fn machine_follows_meaning()
-    ensures { (code : Code) → MachineFollows counted_rows code }
+    ensures exprs { (code : Code) → ExprFollows counted_rows code }
+    ensures stmts { (code : Code) → MachineFollows counted_rows code }
 {}
 
 /// The run of a call comes to where the meaning of the function's body says.
@@ -16,4 +18,9 @@ pub fn call_means()
 /// A run comes to an end.
 pub fn run_ends()
     ensures { (code : Code) → RunEnds code }
+{}
+
+/// Code runs as it does without the places that it tells.
+pub fn places_do_not_matter()
+    ensures { (code : Code) → PlacesDoNotMatter code }
 {}

@@ -1,4 +1,4 @@
-//! The machine that runs resolved code, one step at a time, over Perl's state.
+//! The machine that runs typed code, one step at a time, over Perl's state.
 #![tactic(auto)]
 
 mod dispatch;
@@ -6,5 +6,5 @@ mod laws;
 mod machine;
 mod work;
 
-pub use laws::{call_means, machine_follows_meaning, run_ends};
+pub use laws::{call_means, machine_follows_meaning, places_do_not_matter, run_ends};
 pub use machine::{Machine, Outcome, Step};

@@ -1,7 +1,7 @@
 //! The machine, which works through a list of pending work one step at a time.
 ghost use Rattle.std.specs.Option.{option_copied};
 ghost use Rattle.std.specs.Prelude.{◌≡◌, ◌≢◌, ◌+◌, ◌≤◌, [], ◌∷◌, IfOk, IsErr, length, Ok, OnErr, OnOk, Some, false, reverse};
-ghost use Rattle.xs_ccheck.specs.Functions.{code_of};
+ghost use Rattle.xs_ctree.specs.Functions.{code_of};
 ghost use Rattle.xs_api.specs.Heaps.{value_at};
 ghost use Rattle.xs_machine.specs.Machine as machine;
 ghost use Rattle.xs_api.specs.Limits.{most_items};
@@ -18,9 +18,9 @@ use xs_api::{
     push_top,
 };
 use xs_base::{Bytes, Items, Memory};
-use xs_ccheck::{Typed, ValueType};
+use xs_ctree::{Range, Typed, ValueType};
 use xs_perlapi::Row;
-use xs_values::{Kind, Name, Op, Plain, Trap};
+use xs_values::{Name, Op, Plain, Trap};
 
 /// How the work that ended last came to its end.
 #[derive(Debug, Drop)]
@@ -43,21 +43,21 @@ pub enum Step {
     Ended,
 }
 
-/// A piece of pending work. Trees are named by the places of their nodes.
+/// A piece of pending work. Expressions and statements are named by their nodes.
 #[derive(Clone, Copy, Debug)]
 pub enum Task {
-    DoTree(u32),
-    /// Operands of a row, from left to right.
-    DoTrees(u32),
-    /// Statements of a block.
-    DoBlock(u32),
+    DoExpr(u32),
+    /// Operands of a row, from left to right: a range of the code's parts.
+    DoExprs(Range),
+    DoStmt(u32),
+    /// Statements of a block: a range of the code's parts.
+    DoStmts(Range),
     SetVar(u32, ValueType),
     Operate(Op),
-    ConvertTop(Kind),
+    ToType(ValueType),
     /// A row of Perl's API, and the number of its operands.
     DoRow(Row, u32),
     Branch(u32, u32),
-    ForgetTop,
     DropTop,
     /// The entry of a function, None where no function has the name.
     Enter(Option<u32>),

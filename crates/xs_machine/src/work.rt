@@ -1,10 +1,12 @@
 //! One piece of pending work.
-ghost use Rattle.std.specs.Prelude.{◌≡◌, ◌∷◌, [], IfOk, MatchOption, OnOk, Some, replicate, reverse, slice_index_or, slice_set};
-ghost use Rattle.xs_ccheck.specs.Arena.{tree_at, tree_from, trees_at};
+ghost use Rattle.std.specs.Prelude.{◌≡◌, ◌∷◌, [], ℕ, IfOk, MatchOption, OnOk, Some, length, replicate, reverse, slice_index_or, slice_set, true};
+ghost use Rattle.xs_ctree.specs.Arena.{expr_fits, expr_from, stmt_from, target_from};
+ghost use Rattle.xs_ctree.specs.Functions.{arena_of, expr_in, stmt_in};
 ghost use Rattle.xs_machine.specs.Machine as machine;
 ghost use Rattle.xs_machine.specs.Dispatch.{counted_rows};
 ghost use Rattle.xs_machine.specs.MachineState as state;
-ghost use Rattle.xs_ccheck.specs.TypedTree.{CroakUsage, Function, Register, tree_count};
+ghost use Rattle.xs_ctree.specs.TypedTree as tree;
+ghost use Rattle.xs_ctree.specs.TypedTree.{Function};
 ghost use Rattle.xs_machine.specs.MachineViews.{HasTop, IsShort, Operates, code_in, mach_of, operands_of, pending_of, state_of, task_of};
 
 use crate::dispatch::{croak_usage, register, row_at};
@@ -12,57 +14,111 @@ use crate::machine::{Machine, Outcome, Task};
 use std::alloc::Global;
 use xs_api::{Abrupt, Depths, Halt, Operand, pop_top};
 use xs_base::{Bytes, Items, Memory};
-use xs_ccheck::{Callable, Node, Typed, ValueType};
+use xs_ctree::{Callable, ExprNode, Range, StmtNode, TargetNode, ValueType};
 use xs_perlapi::Row;
 use xs_values::{Kind, Op, Trap, arith, wrap};
 
-// One tree, by its node.
-fn act_on_tree(m: &mut Machine, i: u32) -> Result<(), Memory>
+// One expression, by its node.
+fn act_on_expr(m: &mut Machine, i: u32) -> Result<(), Memory>
     requires { m.old.stopped ≡ Outcome.Returned [] }
     ensures acts { OnOk result (mach_of m.new
-        ≡ machine.act_tree counted_rows (tree_at m.old.typed.texts.items m.old.typed.nodes.items i)
-        (pending_of m.old) (operands_of m.old) (state_of m.old)) }
+        ≡ machine.act_expr counted_rows (expr_in m.old.typed i) (pending_of m.old)
+        (operands_of m.old) (state_of m.old)) }
     ensures typed { m.new.typed ≡ m.old.typed }
 {
-    match m.typed.node(i) {
+    match m.typed.expr(i) {
         None => push_items(m),
-        Some(node) => act_on_node(m, node),
+        Some(node) => act_on_expr_node(m, node),
     }
 }
 
-fn act_on_node(m: &mut Machine, node: Node) -> Result<(), Memory>
-    requires { m.old.stopped ≡ Outcome.Returned [] }
+fn act_on_expr_node(m: &mut Machine, node: ExprNode) -> Result<(), Memory>
+    requires stopped { m.old.stopped ≡ Outcome.Returned [] }
+    requires fits { (i : ℕ) × (expr_fits (arena_of m.old.typed) i node ≡ true) }
     ensures acts { OnOk result (mach_of m.new
-        ≡ machine.act_tree counted_rows
-        (tree_from m.old.typed.texts.items (Some node)
-        (tree_at m.old.typed.texts.items m.old.typed.nodes.items)
-        (trees_at m.old.typed.texts.items m.old.typed.nodes.items)) (pending_of m.old)
+        ≡ machine.act_expr counted_rows
+        (expr_from (arena_of m.old.typed) (Some node) (expr_in m.old.typed)) (pending_of m.old)
         (operands_of m.old) (state_of m.old)) }
     ensures typed { m.new.typed ≡ m.old.typed }
 {
     match node {
-        Node::Literal(n) => m.push(Operand::Num(n)),
-        Node::Variable(x) => read_variable(m, x),
-        Node::Assign(x, t, e) => m.then_two(Task::DoTree(e), Task::SetVar(x, t)),
-        Node::Binary(op, a, b) => {
+        ExprNode::Literal(n) => m.push(Operand::Num(n)),
+        ExprNode::Variable(x) => read_variable(m, x),
+        ExprNode::ItemCount => push_items(m),
+        ExprNode::Cast(t, e) => m.then_two(Task::DoExpr(e), Task::ToType(t)),
+        ExprNode::Binary(op, a, b) => {
             m.then(Task::Operate(op))?;
-            m.then_two(Task::DoTree(a), Task::DoTree(b))
+            m.then_two(Task::DoExpr(a), Task::DoExpr(b))
         }
-        Node::Convert(kind, e) => m.then_two(Task::DoTree(e), Task::ConvertTop(kind)),
-        Node::ApiRow(row, xs) => {
-            let count = count_trees(&m.typed, xs);
-            m.then_two(Task::DoTrees(xs), Task::DoRow(row, count))
+        ExprNode::Assign(_, to, e) => begin_assignment(m, to, e),
+        ExprNode::Api(_, row, operands) => begin_row(m, row, operands),
+        ExprNode::Usage(_, text) => act_on_usage(m, text),
+    }
+}
+
+// A row of Perl's API: its operands come first.
+fn begin_row(m: &mut Machine, row: Row, operands: Range) -> Result<(), Memory>
+    requires { m.old.stopped ≡ Outcome.Returned [] }
+    ensures acts { OnOk result (mach_of m.new
+        ≡ machine.run_on (task_of m.old.typed (Task.DoExprs operands)
+        ∷ machine.DoRow row operands.count ∷ pending_of m.old) (operands_of m.old)
+        (state_of m.old)) }
+    ensures typed { m.new.typed ≡ m.old.typed }
+{
+    m.then_two(Task::DoExprs(operands), Task::DoRow(row, operands.count))
+}
+
+// An assignment: its right side comes first.
+fn begin_assignment(m: &mut Machine, to: TargetNode, e: u32) -> Result<(), Memory>
+    requires { m.old.stopped ≡ Outcome.Returned [] }
+    ensures acts { OnOk result (mach_of m.new ≡ machine.act_assign counted_rows
+        (target_from to (expr_in m.old.typed)) (expr_in m.old.typed e)
+        (pending_of m.old) (operands_of m.old) (state_of m.old)) }
+    ensures typed { m.new.typed ≡ m.old.typed }
+{
+    match to {
+        TargetNode::Variable(x, t) => m.then_two(Task::DoExpr(e), Task::SetVar(x, t)),
+        TargetNode::Item(at) => {
+            m.then(Task::DoRow(Row::StSet, 2))?;
+            m.then_two(Task::DoExpr(e), Task::DoExpr(at))
         }
-        Node::CroakUsage(text) => act_on_usage(m, text),
-        Node::Register(name, function) => act_on_registration(m, name, function),
-        Node::Block(ts) => m.then(Task::DoBlock(ts)),
-        Node::If(e, a, b) => m.then_two(Task::DoTree(e), Task::Branch(a, b)),
-        Node::Forget(e) => m.then_two(Task::DoTree(e), Task::ForgetTop),
-        Node::Declare(x) => {
+    }
+}
+
+// One statement, by its node.
+fn act_on_stmt(m: &mut Machine, i: u32) -> Result<(), Memory>
+    requires { m.old.stopped ≡ Outcome.Returned [] }
+    ensures acts { OnOk result (mach_of m.new
+        ≡ machine.act_stmt counted_rows (stmt_in m.old.typed i) (pending_of m.old)
+        (operands_of m.old) (state_of m.old)) }
+    ensures typed { m.new.typed ≡ m.old.typed }
+{
+    match m.typed.stmt(i) {
+        None => m.then(Task::DoStmts(NO_PARTS)),
+        Some(node) => act_on_stmt_node(m, node),
+    }
+}
+
+// The range of no part.
+const NO_PARTS: Range = Range { start: 0, count: 0 };
+
+fn act_on_stmt_node(m: &mut Machine, node: StmtNode) -> Result<(), Memory>
+    requires { m.old.stopped ≡ Outcome.Returned [] }
+    ensures acts { OnOk result (mach_of m.new
+        ≡ machine.act_stmt counted_rows
+        (stmt_from (arena_of m.old.typed) (Some node) (expr_in m.old.typed)
+        (stmt_in m.old.typed)) (pending_of m.old) (operands_of m.old) (state_of m.old)) }
+    ensures typed { m.new.typed ≡ m.old.typed }
+{
+    match node {
+        StmtNode::Block(_, body) => m.then(Task::DoStmts(body)),
+        StmtNode::Effect(e) | StmtNode::Quit(_, e) => m.then_two(Task::DoExpr(e), Task::DropTop),
+        StmtNode::Declare(_, x) => {
             write_variable(&mut m.vars, x, &Operand::Unset);
-            m.push(Operand::Void)
+            Ok(())
         }
-        Node::ItemCount | Node::NoTrees | Node::MoreTrees(_, _) => push_items(m),
+        StmtNode::If(_, e, a, b) => m.then_two(Task::DoExpr(e), Task::Branch(a, b)),
+        StmtNode::Register(name, function) => act_on_registration(m, name, function),
     }
 }
 
@@ -112,48 +168,31 @@ fn write_variable(vars: &mut Vec<Operand>, x: u32, v: &Operand)
     }
 }
 
-// How many trees a list has.
-fn count_trees(typed: &Typed, xs: u32) -> u32
-    ensures { result ≡ tree_count (trees_at typed.now.texts.items typed.now.nodes.items xs) }
-{
-    let mut count: u32 = 0;
-    let mut at = xs;
-    while let Some(Node::MoreTrees(_, rest)) = typed.node(at) {
-        count += 1;
-        at = rest;
-    }
-    count
-}
-
-// Operands, or statements, that are still to be done.
-fn act_on_trees(m: &mut Machine, i: u32) -> Result<(), Memory>
+// Operands that are still to be done.
+fn act_on_exprs(m: &mut Machine, operands: Range) -> Result<(), Memory>
     requires { m.old.stopped ≡ Outcome.Returned [] }
     ensures acts { OnOk result (mach_of m.new
-        ≡ machine.act counted_rows (code_in m.old)
-        (machine.DoTrees (trees_at m.old.typed.texts.items m.old.typed.nodes.items i))
+        ≡ machine.act counted_rows (code_in m.old) (task_of m.old.typed (Task.DoExprs operands))
         (pending_of m.old) (operands_of m.old) (state_of m.old)) }
     ensures typed { m.new.typed ≡ m.old.typed }
 {
-    match m.typed.node(i) {
-        Some(Node::MoreTrees(t, ts)) => m.then_two(Task::DoTree(t), Task::DoTrees(ts)),
-        _ => Ok(()),
+    match m.typed.first_part(operands) {
+        Some((first, rest)) => m.then_two(Task::DoExpr(first), Task::DoExprs(rest)),
+        None => Ok(()),
     }
 }
 
-fn act_on_block(m: &mut Machine, i: u32) -> Result<(), Memory>
+// Statements that are still to be done.
+fn act_on_stmts(m: &mut Machine, body: Range) -> Result<(), Memory>
     requires { m.old.stopped ≡ Outcome.Returned [] }
     ensures acts { OnOk result (mach_of m.new
-        ≡ machine.act counted_rows (code_in m.old)
-        (machine.DoBlock (trees_at m.old.typed.texts.items m.old.typed.nodes.items i))
+        ≡ machine.act counted_rows (code_in m.old) (task_of m.old.typed (Task.DoStmts body))
         (pending_of m.old) (operands_of m.old) (state_of m.old)) }
     ensures typed { m.new.typed ≡ m.old.typed }
 {
-    match m.typed.node(i) {
-        Some(Node::MoreTrees(t, ts)) => {
-            m.then(Task::DoBlock(ts))?;
-            m.then_two(Task::DoTree(t), Task::DropTop)
-        }
-        _ => m.push(Operand::Void),
+    match m.typed.first_part(body) {
+        Some((first, rest)) => m.then_two(Task::DoStmt(first), Task::DoStmts(rest)),
+        None => Ok(()),
     }
 }
 
@@ -230,7 +269,7 @@ fn assigned(t: ValueType, v: Operand) -> Option<Operand>
             Operand::Scalar(s) => Some(Operand::Scalar(s)),
             Operand::Unset | Operand::Num(_) | Operand::Void => None,
         },
-        ValueType::Void => None,
+        ValueType::Void | ValueType::Faulty => None,
     }
 }
 
@@ -266,18 +305,18 @@ fn operate(op: Op, a: Operand, b: Operand) -> Result<Operand, Trap>
     }
 }
 
-// A conversion of the topmost operand.
-fn act_on_convert(m: &mut Machine, kind: Kind) -> Result<(), Memory>
+// A cast of the topmost operand.
+fn act_on_cast(m: &mut Machine, t: ValueType) -> Result<(), Memory>
     requires { m.old.stopped ≡ Outcome.Returned [] }
     ensures acts { OnOk result (mach_of m.new
-        ≡ machine.act counted_rows (code_in m.old) (machine.ConvertTop kind) (pending_of m.old)
+        ≡ machine.act counted_rows (code_in m.old) (machine.ToType t) (pending_of m.old)
         (operands_of m.old) (state_of m.old)) }
     ensures typed { m.new.typed ≡ m.old.typed }
 {
     let Some(v) = pop_operand(m) else {
         return Ok(());
     };
-    match assigned(ValueType::Number(kind), v) {
+    match assigned(t, v) {
         None => land(m, Err(Trap::Kind)),
         Some(v) => m.push(v),
     }
@@ -296,8 +335,8 @@ fn act_on_branch(m: &mut Machine, a: u32, b: u32) -> Result<(), Memory>
     };
     match truth_of(v) {
         None => land(m, Err(Trap::Kind)),
-        Some(true) => m.then(Task::DoTree(a)),
-        Some(false) => m.then(Task::DoTree(b)),
+        Some(true) => m.then(Task::DoStmt(a)),
+        Some(false) => m.then(Task::DoStmt(b)),
     }
 }
 
@@ -335,8 +374,8 @@ fn act_on_row(m: &mut Machine, row: Row, n: u32) -> Result<(), Memory>
 fn act_on_usage(m: &mut Machine, text: u32) -> Result<(), Memory>
     requires { m.old.stopped ≡ Outcome.Returned [] }
     ensures acts { OnOk result (mach_of m.new
-        ≡ machine.act_tree counted_rows
-        (CroakUsage (slice_index_or m.old.typed.texts.items text [])) (pending_of m.old)
+        ≡ machine.act_expr counted_rows
+        (tree.Usage 0 (slice_index_or m.old.typed.texts.items text [])) (pending_of m.old)
         (operands_of m.old) (state_of m.old)) }
     ensures typed { m.new.typed ≡ m.old.typed }
 {
@@ -354,13 +393,13 @@ fn act_on_usage(m: &mut Machine, text: u32) -> Result<(), Memory>
 fn act_on_registration(m: &mut Machine, name: u32, function: u32) -> Result<(), Memory>
     requires { m.old.stopped ≡ Outcome.Returned [] }
     ensures acts { OnOk result (mach_of m.new
-        ≡ machine.act_tree counted_rows
-        (Register (slice_index_or m.old.typed.texts.items name []) function) (pending_of m.old)
+        ≡ machine.act_stmt counted_rows
+        (tree.Register (slice_index_or m.old.typed.texts.items name []) function) (pending_of m.old)
         (operands_of m.old) (state_of m.old)) }
     ensures typed { m.new.typed ≡ m.old.typed }
 {
     match register(&mut m.perl, &m.typed, name, function, &m.frame) {
-        Ok(v) => m.push(v),
+        Ok(_) => Ok(()),
         Err(Halt::Way(abrupt)) => {
             m.unwind(abrupt);
             Ok(())
@@ -399,8 +438,8 @@ fn enter(m: &mut Machine, f: Option<u32>) -> Result<(), Memory>
 
 fn enter_body(m: &mut Machine, callee: Callable) -> Result<(), Memory>
     requires { m.old.stopped ≡ Outcome.Returned [] }
-    ensures acts { (g : Function) → g.slots ≡ callee.slots
-        → g.body ≡ tree_at m.old.typed.texts.items m.old.typed.nodes.items callee.body
+    ensures acts { (g : Function) → length g.slots ≡ callee.slots
+        → g.body ≡ stmt_in m.old.typed callee.body
         → OnOk result (mach_of m.new
         ≡ machine.enter counted_rows (Some g) (pending_of m.old) (state_of m.old)) }
     ensures typed { m.new.typed ≡ m.old.typed }
@@ -413,11 +452,11 @@ fn enter_body(m: &mut Machine, callee: Callable) -> Result<(), Memory>
     m.turns -= 1;
     m.vars = vars;
     m.operands.clear();
-    m.then_two(Task::DoTree(callee.body), Task::DropTop)
+    m.then(Task::DoStmt(callee.body))
 }
 
 // The variables at the entry of a function.
-fn unset_vars(alloc: Global, slots: u32) -> Result<Vec<Operand>, Memory>
+fn unset_vars(alloc: Global, slots: usize) -> Result<Vec<Operand>, Memory>
     ensures { IfOk result (λ vars. vars.items ≡ replicate slots Operand.Unset) }
 {
     let mut vars = Vec::new(alloc);
@@ -466,18 +505,15 @@ pub(crate) fn act_on(m: &mut Machine, task: Task) -> Result<(), Memory>
     ensures typed { m.new.typed ≡ m.old.typed }
 {
     match task {
-        Task::DoTree(i) => act_on_tree(m, i),
-        Task::DoTrees(i) => act_on_trees(m, i),
-        Task::DoBlock(i) => act_on_block(m, i),
+        Task::DoExpr(i) => act_on_expr(m, i),
+        Task::DoExprs(operands) => act_on_exprs(m, operands),
+        Task::DoStmt(i) => act_on_stmt(m, i),
+        Task::DoStmts(body) => act_on_stmts(m, body),
         Task::SetVar(x, t) => act_on_assign(m, x, t),
         Task::Operate(op) => act_on_operator(m, op),
-        Task::ConvertTop(kind) => act_on_convert(m, kind),
+        Task::ToType(t) => act_on_cast(m, t),
         Task::DoRow(row, n) => act_on_row(m, row, n),
         Task::Branch(a, b) => act_on_branch(m, a, b),
-        Task::ForgetTop => match pop_operand(m) {
-            None => Ok(()),
-            Some(_) => m.push(Operand::Void),
-        },
         Task::DropTop => {
             pop_operand(m);
             Ok(())

@@ -8,10 +8,10 @@ use Rattle.xs_api.specs.declared.api.Operand.{Operand}
 use Rattle.xs_api.specs.declared.api.Registered.{Registered}
 use Rattle.xs_machine.specs.declared.machine.Outcome.{Outcome}
 use Rattle.xs_machine.specs.declared.machine.Outcome.TheVariants as outcome
-use Rattle.xs_ccheck.specs.Functions.{function_at}
+use Rattle.xs_ctree.specs.Functions.{function_at}
 use Rattle.xs_machine.specs.Machine.{run, run_on, Enter, Leave, begun_at, called, call_meaning, call_over, is_over, left, undefined_text, with_call}
 use Rattle.xs_machine.specs.MachineState.{State}
-use Rattle.xs_ccheck.specs.TypedTree.{Code}
+use Rattle.xs_ctree.specs.TypedTree.{Code}
 use Rattle.xs_api.specs.World.{Cells, World, Clean, depths_of, registered, sweep}
 use Rattle.xs_values.specs.declared.trap.Trap.TheVariants.{Large}
 use Rattle.xs_sim.specs.RunnerStates.{state, world, frame, EndsAs, resting, idle}

@@ -1,7 +1,6 @@
 -- Places in a list of cells and in a list of values.
-use Rattle.std.proofs.Common.{◌≡◌, ℕ, ◌+◌, arith, List, [], ◌∷◌, ◌++◌, length, Some, sym, ap, ◌∙◌, append_assoc, length-append}
+use Rattle.std.proofs.Common.{◌≡◌, ℕ, ◌+◌, arith, List, [], ◌∷◌, ◌++◌, length, Some, refl, sym, ap, ◌∙◌, append_assoc, length-append}
 use Rattle.std.proofs.Math.Seq.{get_or-append_seam, set-append_seam}
-use Rattle.xs_ccheck.proofs.Growing.{get_seam}
 use Rattle.std.specs.Prelude.{slice_get, slice_index_or, slice_set}
 
 -- what stands after so many
@@ -10,6 +9,10 @@ get_at h t x d n e = ap (λ k. slice_index_or (h ++ x ∷ t) k d) (sym e) ∙ ge
 
 pub set_at : {X : Type 0} (h t : List X) (x v : X) (n : ℕ) → length h ≡ n → slice_set (h ++ x ∷ t) n v ≡ h ++ v ∷ t
 set_at h t x v n e = ap (λ k. slice_set (h ++ x ∷ t) k v) (sym e) ∙ set-append_seam h x t v
+
+get_seam : {X : Type 0} (h : List X) (x : X) (t : List X) → slice_get (h ++ x ∷ t) (length h) ≡ Some x
+get_seam [] x t = refl
+get_seam (y ∷ h) x t = get_seam h x t
 
 pub find_at : {X : Type 0} (h t : List X) (x : X) (n : ℕ) → length h ≡ n → slice_get (h ++ x ∷ t) n ≡ Some x
 find_at h t x n e = ap (slice_get (h ++ x ∷ t)) (sym e) ∙ get_seam h x t

@@ -4,7 +4,7 @@ use Rattle.xs_api.specs.declared.api.Frame.{Frame}
 use Rattle.xs_api.specs.declared.api.Operand.{Operand}
 use Rattle.xs_api.specs.declared.api.Registered.{Registered}
 use Rattle.xs_api.specs.World.{Cells, Clean, live_of, registered, sweep}
-use Rattle.xs_ccheck.specs.TypedTree.{Code}
+use Rattle.xs_ctree.specs.TypedTree.{Code}
 use Rattle.xs_machine.specs.declared.machine.Outcome.{Outcome}
 use Rattle.xs_machine.specs.declared.machine.Outcome.TheVariants as outcome
 use Rattle.xs_machine.specs.Machine.{called, is_over, runner_depths, undefined_text}

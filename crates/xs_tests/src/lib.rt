@@ -19,9 +19,17 @@ mod syntax_tables;
 #[cfg(test)]
 mod table_rows;
 #[cfg(test)]
+mod template_cases;
+#[cfg(test)]
 mod token_cases;
 #[cfg(test)]
 mod token_tables;
+#[cfg(test)]
+mod type_cases;
+#[cfg(test)]
+mod type_tables;
+#[cfg(test)]
+mod typemap_cases;
 #[cfg(test)]
 mod value_cases;
 #[cfg(test)]

@@ -2,7 +2,7 @@ use Rattle.std.proofs.Common.{◌≡◌, Option, sym, subst}
 use Rattle.std.specs.Prelude.{OnOk}
 use Rattle.xs_machine.specs.Machine.{enter}
 use Rattle.xs_machine.specs.Dispatch.{counted_rows}
-use Rattle.xs_ccheck.specs.TypedTree.{Function}
+use Rattle.xs_ctree.specs.TypedTree.{Function}
 use Rattle.xs_machine.specs.MachineViews.{mach_of, pending_of, state_of}
 use Rattle.xs_machine.proofs.work.enter.Goals as goal
 

@@ -1,0 +1,46 @@
+use Rattle.std.proofs.Common.{◌≡◌, ◌∙◌, ◌+◌, ◌<◌, sym, subst, length, map, drop, arith}
+use Rattle.xs_cexpr.specs.ExpressionTree.{Set, Two, exprs_of}
+use Rattle.xs_cexpr.specs.ExpressionViews.{expr_tree, place_tree}
+use Rattle.xs_ccheck.specs.ExprTyping.{expr, exprs}
+use Rattle.xs_ccheck.specs.Resolving.{GivesExpr, HasTyped, HaveTyped, typed_in}
+use Rattle.xs_ccheck.proofs.Collecting.{step}
+use Rattle.xs_ccheck.proofs.ExprSizes.{item_smaller}
+use Rattle.xs_ccheck.proofs.Lists.{typed_last}
+use Rattle.xs_ccheck.proofs.Loops.{assignment, exprs_next, operation}
+use Rattle.xs_ccheck.proofs.exprs.+expr.Goals as goal
+
+pub assign-returns-in_ok-to-in-None : goal.assign-returns-in_ok-to-in-None
+assign-returns-in_ok-to-in-None t c =
+    let vs = c.args.scope.now.variables in
+    let place = place_tree c.args.place.now in
+    let value = expr_tree c.args.value.now in
+    let given = c.in_ok-to-in-None in
+    subst (λ o. GivesExpr c.assigned.result c.args.typed.now c.assigned.new.typed (expr vs (Set c.args.line place o value))) (sym c.in-None.is)
+    (assignment vs c.args.line c.args.typed.now c.place_in-to.new.typed c.expr-x.new.typed c.assigned.new.typed c.assigned.result given.x c.expr-x.result
+    place value given.to c.place_in-to.result c.place_in-to.ensures c.expr-x.ensures (sym c.both.ensures ∙ given.was) c.assigned.ensures)
+
+pub binary-returns-in_ok-x-in-On : goal.binary-returns-in_ok-x-in-On
+binary-returns-in_ok-x-in-On t c =
+    let vs = c.args.scope.now.variables in
+    let a = expr_tree c.args.a.now in
+    let b = expr_tree c.args.b.now in
+    let given = c.in_ok-x-in-On in
+    subst (λ o. GivesExpr c.operated.result c.args.typed.now c.operated.new.typed (expr vs (Two c.args.line o a b))) (sym c.in-On.is)
+    (operation vs c.args.line c.args.typed.now c.expr-x.new.typed c.expr-y.new.typed c.operated.new.typed c.operated.result given.y c.expr-y.result
+    c.in-On.op a b given.x c.expr-x.result c.expr-x.ensures c.expr-y.ensures (sym c.both.ensures ∙ given.was) c.operated.ensures)
+
+pub exprs-expr-x-requires : goal.exprs-expr-x-requires
+exprs-expr-x-requires t c =
+    let small = item_smaller c.args.args.now c.loop-a.a-index c.a-item.result (omega (arith, c.loop-a-test.true)) c.a-item.is in
+    (omega (arith, small, c.decreases), tt)
+
+pub exprs-loop-a-preserved : goal.exprs-loop-a-preserved
+exprs-loop-a-preserved t c =
+    let vs = c.args.scope.now.variables in
+    let args = c.args.args.now in
+    let i = c.loop-a.a-index in
+    let within : i < length args = omega (arith, c.loop-a-test.true) in
+    step typed_in HasTyped HaveTyped typed_last c.args.typed.now c.loop-a.typed c.expr-x.new.typed (exprs vs (exprs_of (map expr_tree args)))
+    (exprs vs (exprs_of (map expr_tree (drop (i + 1) args)))) c.loop-a.good.items c.take_up.new.good.items c.loop-a.least c.in_ok-least.least
+    c.expr-x.result (expr vs (expr_tree c.a-item.result)) (exprs vs (exprs_of (map expr_tree (drop i args))))
+    (exprs_next vs args i c.a-item.result within c.a-item.is) c.loop-a.invariant c.expr-x.ensures c.in_ok-least.ensures

@@ -1,0 +1,4 @@
+pub mod Extending
+pub mod Opening
+pub mod Additions
+pub mod Callees

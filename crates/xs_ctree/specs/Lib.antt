@@ -1,0 +1,4 @@
+pub mod TypedTree
+pub mod Arena
+pub mod Functions
+pub mod Growth

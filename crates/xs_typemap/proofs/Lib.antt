@@ -1,0 +1,13 @@
+pub mod WordsHeld
+pub mod WordsSet
+pub mod TidiedOnce
+pub mod EachType
+pub mod PartsTidied
+pub mod ReadLines
+pub mod SayingsRead
+pub mod EachLine
+pub mod FollowsLines
+pub mod EntriesKept
+pub mod CoreRead
+pub mod LinesSpelt
+pub mod TypesSpelt
