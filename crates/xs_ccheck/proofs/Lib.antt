@@ -1,5 +1,15 @@
+pub mod CodeTyped
 pub mod Collecting
 pub mod ExprSizes
+pub mod HeldNames
+pub mod FaultOrder
+pub mod FaultsTold
+pub mod FormsSay
+pub mod GoodFunctions
+pub mod LeastFaults
 pub mod Lists
 pub mod Loops
+pub mod ScopesGrow
+pub mod SlotsMeant
 pub mod Unlined
+pub mod WhereGood

@@ -38,13 +38,12 @@ use Rattle.xs_ctree.proofs.Additions.{keeps_on}
 use Rattle.xs_ccheck.specs.declared.exprs.PlaceNode.{PlaceNode}
 use Rattle.xs_ccheck.specs.declared.exprs.TypedNode.{TypedNode}
 use Rattle.xs_ccheck.specs.declared.names.Where.{Where}
-use Rattle.xs_ccheck.specs.declared.scopes.Local.{Local}
 use Rattle.xs_ccheck.specs.Checked.{Checked, Good, Bad, both, Fine, Wrong, judged, more}
 use Rattle.xs_ccheck.specs.ExprTyping.{TypedExpr, all_fit, as_typed, assigned, expr, exprs, operated, place_in, row_called, row_judged}
 use Rattle.xs_ccheck.specs.FileTyping.{defines, functions, item}
 use Rattle.xs_ccheck.specs.Joining.{Notes, TakesUp, first_of, joined, settled}
 use Rattle.xs_ccheck.specs.Resolving.{GivesExpr, GivesFunction, GivesFunctions, GivesTarget, HasTarget, HasTyped, IsFunction, all_typed_in, nodes_of, Resolved, Resolves, UnlessMemory, target_in, typed_in}
-use Rattle.xs_ccheck.specs.Scopes.{Scope, scope_behind, scopes_behind}
+use Rattle.xs_ccheck.specs.Scopes.{Local, Scope, scope_behind, scopes_behind}
 use Rattle.xs_ccheck.specs.StmtTyping.{FileNames, stmt, stmts}
 use Rattle.xs_ccheck.proofs.Collecting.{joined_first, joined_second, on, on_first, on_good, on_two, resolves_on}
 

@@ -28,11 +28,10 @@ use Rattle.xs_ctree.specs.declared.value_type.ValueType.TheVariants as type_of
 use Rattle.xs_perlapi.specs.declared.row.Row.TheVariants.{Entry}
 use Rattle.xs_ctree.specs.TypedTree.{Expr, Exprs, NoExprs, MoreExprs, Literal, Variable, ItemCount, Binary, Cast, Assign, Api, Usage, Target, ToItem, Stmt, MoreStmts, Block, Effect, Declare, If, Quit, nothing, Function, Code, exprs_of, stmts_of, bare, bare_expr, bare_exprs, bare_function, bare_slot, bare_stmt, bare_stmts, bare_target}
 use Rattle.xs_ccheck.specs.declared.names.Where.{Where}
-use Rattle.xs_ccheck.specs.declared.scopes.Local.{Local}
 use Rattle.xs_ccheck.specs.Checked.{Checked, Good, Bad, answer, behind, both, more, Judged, Fine, Wrong, judged, unbuilt}
 use Rattle.xs_ccheck.specs.ExprTyping.{TypedExpr, TypedTarget, all_fit, as_typed, assigned, called, cast, expr, exprs, is_cv, item_place, name_meant, operated, other_name, place_in, row_judged, text_in, typed, usage, usage_of, usage_word, variable_place}
 use Rattle.xs_ccheck.specs.FileTyping.{behind_entry, code_meant, defines, entry_form, entry_line, entry_of, entry_word, function, function_done, function_from, function_judged, functions, is_boot_name, is_earlier, item, item_name, names_of, sort_of, typed_of, where_in, with_entry}
-use Rattle.xs_ccheck.specs.Scopes.{Scope, beginning, declarators_behind, is_in_use, knowing, named, new_variable, next_slot, scope_behind, scopes_behind, variable_of, with_variable}
+use Rattle.xs_ccheck.specs.Scopes.{Local, Scope, beginning, declarators_behind, is_in_use, knowing, named, new_variable, next_slot, scope_behind, scopes_behind, variable_of, with_variable}
 use Rattle.xs_ccheck.specs.StmtTyping.{FileNames, conditional, declaration, declarator, declared, effect, index_of, perl, perl_word, quits, registered, stmt, stmts}
 use Rattle.xs_ccheck.specs.TypeNames.{declared_type, type_named}
 use Rattle.xs_ccheck.specs.ValueTypes.{goes_into, is_condition, is_number, is_operand, of_cast, of_two, result_type}

@@ -21,8 +21,7 @@ use Rattle.xs_ctree.specs.declared.value_type.ValueType.{ValueType}
 use Rattle.xs_ctree.specs.declared.value_type.ValueType.TheVariants as type_of
 use Rattle.xs_ctree.specs.TypedTree.{Expr, Literal, Variable, ItemCount, Cast, Binary, Assign, Api, Usage, Target, ToVariable, ToItem, exprs_of}
 use Rattle.xs_ccheck.specs.Checked.{Checked, Good, behind, both, more, Judged, Fine, Wrong, judged, when, unbuilt}
-use Rattle.xs_ccheck.specs.declared.scopes.Local.{Local}
-use Rattle.xs_ccheck.specs.Scopes.{variable_of}
+use Rattle.xs_ccheck.specs.Scopes.{Local, variable_of}
 use Rattle.xs_ccheck.specs.TypeNames.{type_named}
 use Rattle.xs_ccheck.specs.ValueTypes.{differ, goes_into, is_number, is_operand, of_cast, of_two, result_type}
 

@@ -6,5 +6,9 @@ pub mod Scopes
 pub mod ExprTyping
 pub mod StmtTyping
 pub mod FileTyping
+pub mod FormTypes
+pub mod FaultSet
+pub mod SlotUses
+pub mod CodeTypes
 pub mod Resolving
 pub mod Laws

@@ -1,6 +1,8 @@
 -- What the checking of expressions, statements and functions gives: nodes whose trees are those of
 -- the definition, or the fault that it tells.
 use Rattle.std.specs.Prelude.{◌≡◌, ℕ, true, List, [], ◌∷◌, ◌++◌, length, map, Result, Ok, Err}
+use Rattle.std.specs.Map.{lookup}
+use Rattle.std.specs.Str.{bytes_eq}
 use Rattle.std.specs.declared.alloc.Global.{Global}
 use Rattle.std.specs.declared.vec.Vec.{Vec}
 use Rattle.xs_base.specs.declared.fault.Refuse.{Refuse}
@@ -19,7 +21,7 @@ use Rattle.xs_ccheck.specs.declared.exprs.PlaceNode.{PlaceNode}
 use Rattle.xs_ccheck.specs.Checked.{Checked, Good, Bad}
 use Rattle.xs_ccheck.specs.ExprTyping.{TypedExpr, TypedTarget}
 use Rattle.xs_ccheck.specs.FileTyping.{names_of}
-use Rattle.xs_ccheck.specs.StmtTyping.{FileNames}
+use Rattle.xs_ccheck.specs.StmtTyping.{FileNames, index_of}
 
 -- A call refuses with the fault that the definition tells, or where memory runs out.
 abbrev pub Refuses : {A : Type 0} → Refuse → Checked A → Type 0
@@ -133,3 +135,15 @@ GivesFunctions (Err e) read = Refuses e read
 -- the names of a file
 abbrev pub names_in : List FileItem → FileNames
 names_in items = names_of (map item_tree items)
+
+-- ---- names
+
+-- each name is held with the index at which it stands first
+abbrev pub FindsFirst : List (List ℕ) → List (Vec ℕ Global × ℕ) → Type 0
+FindsFirst names held = (name : List ℕ)
+    → lookup (λ (key : Vec ℕ Global). bytes_eq name key.items) held ≡ index_of names name
+
+-- what holds each name with its first index does so still where a name stands behind the others
+abbrev pub AddsName : List ℕ → ℕ → List (Vec ℕ Global × ℕ) → List (Vec ℕ Global × ℕ) → Type 0
+AddsName name at old new = (names : List (List ℕ)) → length names ≡ at → FindsFirst names old
+    → FindsFirst (names ++ name ∷ []) new

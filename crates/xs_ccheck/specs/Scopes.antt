@@ -4,13 +4,23 @@ use Rattle.std.specs.Prelude.{ℕ, Bool, ◌||◌, if◌then◌else◌, List, []
 use Rattle.std.specs.Map.{lookup}
 use Rattle.std.specs.Option.{is_some}
 use Rattle.std.specs.Str.{bytes_eq}
+use Rattle.std.specs.declared.alloc.Global.{Global}
+use Rattle.std.specs.declared.vec.Vec.{Vec}
 use Rattle.xs_cstmt.specs.StatementTree as syntax
 use Rattle.xs_cstmt.specs.StatementTree.{DeclaratorTree, DeclaredTree, StmtTree, StmtTrees}
 use Rattle.xs_perlapi.specs.Table.{is_interface_word}
 use Rattle.xs_ctree.specs.declared.value_type.Slot.{Slot}
 use Rattle.xs_ctree.specs.declared.value_type.ValueType.{ValueType}
-use Rattle.xs_ccheck.specs.declared.scopes.Local.{Local}
 use Rattle.xs_ccheck.specs.TypeNames.{declared_type}
+
+-- a variable that is known
+pub record Local : Type 0 where
+  pub name : List ℕ
+  pub slot : Slot
+
+-- a variable as a map from names holds it
+abbrev pub held : Vec ℕ Global × Slot → Local
+held e = record { name = e.0.items; slot = e.1 }
 
 -- the variables that are known, in the order of their declarations, and all slots so far
 pub record Scope : Type 0 where

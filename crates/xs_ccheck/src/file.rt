@@ -12,7 +12,8 @@ ghost use Rattle.xs_ccheck.specs.Resolving.{GivesFunction, GivesFunctions, Gives
 
 use crate::checked::{both, first_of, noted, settled};
 use crate::faults::{not_built, worded};
-use crate::names::{Where, index_of, is_boot_name, is_earlier};
+use crate::file_names::FileNames;
+use crate::names::{Where, is_boot_name, is_earlier};
 use crate::scopes::Scope;
 use crate::stmts::stmts;
 use std::alloc::Global;
@@ -168,12 +169,12 @@ fn add_function(
 fn function(
     alloc: Global,
     typed: &mut Typed,
-    items: &[FileItem],
+    names: &FileNames,
     at: usize,
     f: &XsFun,
 ) -> Result<(), Refuse>
     ensures { GivesFunction result typed.old typed.new
-        (spec.function (names_in items.now) at (xs_fun_tree f.now)) }
+        (spec.function names.now at (xs_fun_tree f.now)) }
 {
     let name = f.name.as_slice();
     let is_boot = is_boot_name(name);
@@ -184,11 +185,11 @@ fn function(
         alloc,
         typed,
         &mut scope,
-        items,
+        names,
         Where { in_boot: is_boot },
         behind,
     )?;
-    if is_earlier(index_of(items, name), at) {
+    if is_earlier(names.index_of(name), at) {
         return Err(Refuse::Fault(worded(alloc, f.line, DECLARED_TWICE, name)?));
     }
     let body = with_entry(alloc, typed, entry, body)?;
@@ -200,15 +201,15 @@ fn function(
 fn item(
     alloc: Global,
     typed: &mut Typed,
-    items: &[FileItem],
+    names: &FileNames,
     at: usize,
     item: &FileItem,
 ) -> Result<(), Refuse>
     ensures { GivesFunction result typed.old typed.new
-        (spec.item (names_in items.now) at (item_tree item.now)) }
+        (spec.item names.now at (item_tree item.now)) }
 {
     match item {
-        FileItem::XsFun(f) => function(alloc, typed, items, at, f),
+        FileItem::XsFun(f) => function(alloc, typed, names, at, f),
         FileItem::Typedef(t) => Err(not_built(alloc, t.line)),
         FileItem::Record(r) => Err(not_built(alloc, r.line)),
         FileItem::Prototype(head) => Err(not_built(alloc, head.line)),
@@ -216,17 +217,25 @@ fn item(
     }
 }
 
-fn functions(alloc: Global, items: &[FileItem]) -> Result<Typed, Refuse>
-    ensures { GivesFunctions result
-        (spec.functions (names_in items.now) 0 (map item_tree items.now)) }
+// The functions of the items of a file with these names.
+fn functions_of(alloc: Global, names: &FileNames, items: &[FileItem]) -> Result<Typed, Refuse>
+    ensures { GivesFunctions result (spec.functions names.now 0 (map item_tree items.now)) }
 {
     let mut typed = Typed::new(alloc);
     let mut least = None;
     for (at, here) in items.iter().enumerate() {
-        let part = item(alloc, &mut typed, items, at, here);
+        let part = item(alloc, &mut typed, names, at, here);
         least = noted(least, part)?;
     }
     settled(typed, least)
+}
+
+fn functions(alloc: Global, items: &[FileItem]) -> Result<Typed, Refuse>
+    ensures { GivesFunctions result
+        (spec.functions (names_in items.now) 0 (map item_tree items.now)) }
+{
+    let names = FileNames::new(alloc, items)?;
+    functions_of(alloc, &names, items)
 }
 
 // Names that are defined as integers, which are not built yet.

@@ -7,6 +7,7 @@ mod checked;
 mod exprs;
 mod faults;
 mod file;
+mod file_names;
 mod laws;
 mod names;
 mod scopes;
@@ -14,4 +15,4 @@ mod stmts;
 mod value_types;
 
 pub use file::check_file;
-pub use laws::types_do_not_depend_on_lines;
+pub use laws::{least_fault_law, slots_once_law, types_do_not_depend_on_lines, types_of_forms_law};

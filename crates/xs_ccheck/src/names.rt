@@ -1,14 +1,9 @@
-//! What the names of types and of functions mean.
+//! What the names of types mean, and which names of functions are special.
 ghost use Rattle.std.specs.Prelude.{◌≡◌, ◌&&◌, nat_eq};
 ghost use Rattle.std.specs.Str.{bytes_eq};
-ghost use Rattle.xs_csyn.specs.FileViews.{item_tree};
 ghost use Rattle.xs_ccheck.specs.FileTyping as files;
-ghost use Rattle.xs_ccheck.specs.Resolving.{names_in};
-ghost use Rattle.xs_ccheck.specs.StmtTyping as spec;
 ghost use Rattle.xs_ccheck.specs.TypeNames as types;
 
-use crate::faults::is;
-use xs_csyn::FileItem;
 use xs_ctree::ValueType;
 use xs_values::Kind;
 
@@ -69,26 +64,4 @@ pub(crate) fn is_earlier(index: Option<usize>, at: usize) -> bool
         None => false,
         Some(index) => index < at,
     }
-}
-
-fn item_name(item: &FileItem) -> &[u8]
-    ensures { result.now ≡ files.item_name (item_tree item.now) }
-{
-    match item {
-        FileItem::XsFun(f) => f.name.as_slice(),
-        _ => &[],
-    }
-}
-
-// The index of the function of a name among a file's items.
-#[tactic(auto, unfolding(crate::specs::StmtTyping::index_of))]
-pub(crate) fn index_of(items: &[FileItem], name: &[u8]) -> Option<usize>
-    ensures { result ≡ spec.index_of (names_in items.now).functions name.now }
-{
-    for (i, item) in items.iter().enumerate() {
-        if is(item_name(item), name) {
-            return Some(i);
-        }
-    }
-    None
 }

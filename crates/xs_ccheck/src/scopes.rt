@@ -1,70 +1,92 @@
 //! The variables that are in scope.
-ghost use Rattle.std.specs.Prelude.{◌≡◌, IfOk, length, map, drop};
+ghost use Rattle.std.specs.Prelude.{◌≡◌, ◌∷◌, ◌++◌, IfOk, None, [], length, map, drop, take};
 ghost use Rattle.xs_cstmt.specs.StatementViews.{declarator_tree};
 ghost use Rattle.xs_ccheck.specs.Scopes as spec;
 
 use crate::names::declared_type;
+use indexmap::IndexMap;
 use std::alloc::Global;
 use std::marker::Model;
-use xs_base::{Bytes, Memory};
+use xs_base::Memory;
 use xs_csyn::Declarator;
 use xs_ctree::{Slot, ValueType};
 use xs_perlapi::is_interface_word;
 
-/// A variable in scope.
-#[derive(Debug, Drop)]
-pub struct Local {
-    pub name: Bytes,
-    pub slot: Slot,
-}
+// ---- maps from names to slots
 
-// The variable of a name.
+// The slot of a name.
 #[tactic(auto, unfolding(crate::specs::Scopes::variable_of))]
-fn variable_of(locals: &[Local], name: &[u8]) -> Option<Slot>
-    ensures { result ≡ spec.variable_of locals.now name.now }
+fn slot_of(known: &IndexMap<Vec<u8>, Slot>, name: &[u8]) -> Option<Slot>
+    ensures { result ≡ spec.variable_of (map spec.held known.now.entries) name.now }
 {
-    for local in locals {
-        if local.name.as_slice() == name {
-            return Some(local.slot);
-        }
-    }
-    None
+    known.get(name).copied()
 }
 
-// The slots of variables.
-fn slots_of(alloc: Global, locals: &[Local]) -> Result<Vec<Slot>, Memory>
-    ensures { IfOk result (λ slots. slots.items ≡ map (λ v. v.slot) locals.now) }
+// The slots after the first so many.
+fn after(slots: &[Slot], count: usize) -> &[Slot]
+    ensures { result.now ≡ drop count slots.now }
 {
-    let mut slots = Vec::new(alloc);
-    for local in locals {
-        slots.push(local.slot)?;
-    }
-    Ok(slots)
-}
-
-// The variables after the first so many.
-fn after(locals: &[Local], count: usize) -> &[Local]
-    ensures { result.now ≡ drop count locals.now }
-{
-    match locals.get(count..) {
+    match slots.get(count..) {
         None => &[],
         Some(rest) => rest,
     }
 }
 
-// The variables that are known where a statement stands, and all slots of its function so far.
+// The slots of the names after the first so many.
+fn slots_from(
+    alloc: Global,
+    known: &IndexMap<Vec<u8>, Slot>,
+    count: usize,
+) -> Result<Vec<Slot>, Memory>
+    ensures { IfOk result (λ slots. slots.items
+        ≡ map (λ v. v.slot) (drop count (map spec.held known.now.entries))) }
+{
+    let slots = Vec::from_slice(alloc, after(known.values().as_slice(), count))?;
+    Ok(slots)
+}
+
+// Keeps the first so many names.
+fn keep_first(known: &mut IndexMap<Vec<u8>, Slot>, count: usize)
+    ensures { map spec.held known.new.entries ≡ take count (map spec.held known.old.entries) }
+{
+    known.truncate(count);
+}
+
+// Adds a slot under a name that has none yet.
+fn add_last(
+    alloc: Global,
+    known: &mut IndexMap<Vec<u8>, Slot>,
+    name: &[u8],
+    slot: Slot,
+) -> Result<(), Memory>
+    requires { spec.variable_of (map spec.held known.old.entries) name.now ≡ None }
+    ensures { IfOk result (λ _. map spec.held known.new.entries
+        ≡ map spec.held known.old.entries ++ record { name = name.now; slot = slot } ∷ []) }
+{
+    known.insert(Vec::from_slice(alloc, name)?, slot)?;
+    Ok(())
+}
+
+// ---- scopes
+
+// The variables that are known where a statement stands, each under its name and in the order of
+// their declarations, and all slots of its function so far.
 #[derive(Drop)]
 pub(crate) struct Scope {
-    locals: Vec<Local>,
+    known: IndexMap<Vec<u8>, Slot>,
     slots: Vec<Slot>,
 }
 
 impl Model for Scope {
+    ghost use Rattle.std.specs.Prelude.{map};
     ghost use Rattle.xs_ccheck.specs.Scopes as spec;
 
     ghost Value = { spec.Scope };
 
-    ghost view = { λ s. record { variables = s.locals.items; slots = s.slots.items } };
+    ghost view = { λ s. record {
+      variables = map spec.held s.known.entries;
+      slots = s.slots.items;
+    } };
 }
 
 impl Scope {
@@ -73,7 +95,7 @@ impl Scope {
         ensures { result ≡ spec.beginning }
     {
         Scope {
-            locals: Vec::new(alloc),
+            known: IndexMap::new(alloc),
             slots: Vec::new(alloc),
         }
     }
@@ -82,14 +104,14 @@ impl Scope {
     pub(crate) fn known_count(&self) -> usize
         ensures { result ≡ length self.now.variables }
     {
-        self.locals.len()
+        self.known.len()
     }
 
     // The variable of a name.
     pub(crate) fn variable(&self, name: &[u8]) -> Option<Slot>
         ensures { result ≡ spec.variable_of self.now.variables name.now }
     {
-        variable_of(self.locals.as_slice(), name)
+        slot_of(&self.known, name)
     }
 
     // How many slots there are.
@@ -112,14 +134,14 @@ impl Scope {
         ensures { IfOk result (λ slots. slots.items
             ≡ map (λ v. v.slot) (drop count self.now.variables)) }
     {
-        slots_of(alloc, after(self.locals.as_slice(), count))
+        slots_from(alloc, &self.known, count)
     }
 
     // Forgets the variables that were declared after the first so many.
     pub(crate) fn forget_after(&mut self, count: usize)
         ensures { self.new ≡ spec.knowing count self.old }
     {
-        self.locals.truncate(count);
+        keep_first(&mut self.known, count);
     }
 
     // Whether a name may not be declared.
@@ -130,12 +152,12 @@ impl Scope {
         is_interface_word(name) || self.variable(name).is_some()
     }
 
-    // Declares a variable.
+    // Declares a variable, whose name is known nowhere yet.
     fn add(&mut self, alloc: Global, name: &[u8], slot: Slot) -> Result<(), Memory>
+        requires { spec.variable_of self.now.variables name.now ≡ None }
         ensures { IfOk result (λ _. self.new ≡ spec.new_variable self.old name.now slot) }
     {
-        let name = Bytes::from_slice(alloc, name)?;
-        self.locals.push(Local { name, slot })?;
+        add_last(alloc, &mut self.known, name, slot)?;
         self.slots.push(slot)?;
         Ok(())
     }

@@ -9,20 +9,21 @@ ghost use Rattle.xs_ctree.specs.Growth.{HasExpr, HasStmt};
 ghost use Rattle.xs_ctree.specs.TypedTree as tree;
 ghost use Rattle.xs_ctree.specs.declared.typed.Typed.{Typed};
 ghost use Rattle.xs_ccheck.specs.Checked.{Good, judged};
-ghost use Rattle.xs_ccheck.specs.Resolving.{BlockEnds, GivesStmt, GivesStmts, HasTyped, HaveStmts, UnlessMemory, all_stmts_in, names_in, typed_in};
+ghost use Rattle.xs_ccheck.specs.Resolving.{BlockEnds, GivesStmt, GivesStmts, HasTyped, HaveStmts, UnlessMemory, all_stmts_in, typed_in};
 ghost use Rattle.xs_ccheck.specs.Scopes as scopes;
 ghost use Rattle.xs_ccheck.specs.StmtTyping as spec;
 
 use crate::checked::{both, settled, take_up};
 use crate::exprs::{TypedNode, expr};
 use crate::faults::{not_built, types_differ, worded};
-use crate::names::{Where, index_of, type_named};
+use crate::file_names::FileNames;
+use crate::names::{Where, type_named};
 use crate::scopes::Scope;
 use crate::value_types::is_condition;
 use std::alloc::Global;
 use xs_base::fault_codes::{DECLARED_TWICE, UNKNOWN_FUNCTION, WORD_NOT_ALLOWED};
 use xs_base::{Bytes, Memory, Refuse};
-use xs_csyn::{Declarator, FileItem, PerlForm, PerlWord, Stmt};
+use xs_csyn::{Declarator, PerlForm, PerlWord, Stmt};
 use xs_ctree::{ExprNode, Slot, StmtNode, Typed, ValueType};
 use xs_perlapi::Row;
 
@@ -233,13 +234,13 @@ fn perl_word(alloc: Global, typed: &mut Typed, line: u32, word: PerlWord) -> Res
 fn perl(
     alloc: Global,
     typed: &mut Typed,
-    items: &[FileItem],
+    names: &FileNames,
     place: Where,
     line: u32,
     form: &PerlForm,
 ) -> Result<u32, Refuse>
     ensures { GivesStmt result typed.old typed.new
-        (judged line (spec.perl (names_in items.now) place line form.now)) }
+        (judged line (spec.perl names.now place line form.now)) }
 {
     match form {
         PerlForm::Word(word) => perl_word(alloc, typed, line, *word),
@@ -251,7 +252,7 @@ fn perl(
             if *keeps {
                 return Err(not_built(alloc, line));
             }
-            let index = index_of(items, function.as_slice());
+            let index = names.index_of(function.as_slice());
             registered(alloc, typed, line, place, full, function, index)
         }
         PerlForm::ResetStack
@@ -295,19 +296,19 @@ fn stmt(
     alloc: Global,
     typed: &mut Typed,
     scope: &mut Scope,
-    items: &[FileItem],
+    names: &FileNames,
     place: Where,
     s: &Stmt,
 ) -> Result<u32, Refuse>
     ensures stmt { GivesStmt result typed.old typed.new
-        (spec.stmt (names_in items.now) place scope.old (stmt_tree s.now)) }
+        (spec.stmt names.now place scope.old (stmt_tree s.now)) }
     ensures scope { UnlessMemory result (scope.new
         ≡ scopes.scope_behind scope.old (stmt_tree s.now)) }
 {
     match s {
         Stmt::Block(_, body) => {
             let known = scope.known_count();
-            let inner = stmts(alloc, typed, scope, items, place, body.as_slice());
+            let inner = stmts(alloc, typed, scope, names, place, body.as_slice());
             block_end(alloc, typed, scope, known, inner)
         }
         Stmt::Empty(_) => nothing(typed),
@@ -323,11 +324,11 @@ fn stmt(
         }
         Stmt::If(line, test, then_do) => {
             let x = expr(alloc, typed, scope, test);
-            let branch = stmt(alloc, typed, scope, items, place, then_do);
+            let branch = stmt(alloc, typed, scope, names, place, then_do);
             let (x, branch) = both(x, branch)?;
             conditional(alloc, typed, *line, x, branch)
         }
-        Stmt::Perl(line, form) => perl(alloc, typed, items, place, *line, form),
+        Stmt::Perl(line, form) => perl(alloc, typed, names, place, *line, form),
         Stmt::IfElse(line, _, _, _)
         | Stmt::While(line, _, _)
         | Stmt::DoWhile(line, _, _)
@@ -346,19 +347,19 @@ pub(crate) fn stmts(
     alloc: Global,
     typed: &mut Typed,
     scope: &mut Scope,
-    items: &[FileItem],
+    names: &FileNames,
     place: Where,
     body: &[Stmt],
 ) -> Result<Vec<u32>, Refuse>
     ensures stmts { GivesStmts result typed.old typed.new
-        (spec.stmts (names_in items.now) place scope.old (stmts_of (map stmt_tree body.now))) }
+        (spec.stmts names.now place scope.old (stmts_of (map stmt_tree body.now))) }
     ensures scope { UnlessMemory result (scope.new
         ≡ scopes.scopes_behind scope.old (stmts_of (map stmt_tree body.now))) }
 {
     let mut good = Vec::new(alloc);
     let mut least = None;
     for s in body {
-        let x = stmt(alloc, typed, scope, items, place, s);
+        let x = stmt(alloc, typed, scope, names, place, s);
         least = take_up(&mut good, least, x)?;
     }
     settled(good, least)

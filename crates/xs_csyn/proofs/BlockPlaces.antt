@@ -1,5 +1,5 @@
 -- Where tokens are not read as what stands in a block, the fault is at one token: those before it begin such a text, and none that is read goes on with it.
-use Rattle.std.proofs.Common.{◌≡◌, ℕ, zero, suc, ◌+◌, ◌-◌, ◌<◌, ◌≤◌, false, List, [], ◌∷◌, ◌++◌, length, Result, Ok, Err, refl, ap, arith}
+use Rattle.std.proofs.Common.{◌≡◌, inr, ℕ, zero, suc, ◌+◌, ◌-◌, ◌<◌, ◌≤◌, false, List, [], ◌∷◌, ◌++◌, length, Result, Ok, Err, refl, ap, arith}
 use Rattle.xs_base.specs.Reading as reading
 use Rattle.xs_base.specs.declared.fault.Fault.{Fault}
 use Rattle.xs_base.specs.declared.source.FileOf.{FileOf}
@@ -7,23 +7,24 @@ use Rattle.xs_ctok.specs.declared.token.Token.{Token}
 use Rattle.xs_csyn.proofs.AnyDepth.{IsRead, under}
 use Rattle.xs_csyn.proofs.BlocksBegin.{InnerStmt, onward_by, part_begins, stmt_begins}
 use Rattle.xs_csyn.proofs.Breaks.{Viable, alike_viable, by_test, read, step}
-use Rattle.xs_csyn.proofs.ExpressionPlaces.{stands_from}
+use Rattle.xs_csyn.proofs.ExpressionPlaces.{NamedRun, stands_from}
 use Rattle.xs_csyn.proofs.FilesComplete.{kept_shrinks, rest_done}
 use Rattle.xs_csyn.proofs.FormsBegin.{NoElse, far}
 use Rattle.xs_csyn.proofs.HoleHeights.{stmt_low}
 use Rattle.xs_csyn.proofs.Local.{Good, end_tells, proper, turned}
+use Rattle.xs_csyn.proofs.Marks.{variable_name}
 use Rattle.xs_csyn.proofs.MoreTurns.{rest_same}
 use Rattle.xs_csyn.proofs.Sizes.{part_shrinks}
 use Rattle.xs_csyn.proofs.StatementFrames.{part_standing}
 use Rattle.xs_csyn.proofs.StatementsBegin.{fine_with, part_no_else}
 use Rattle.xs_csyn.proofs.StatementsLocal.{part_local, stmt_local}
 use Rattle.xs_csyn.proofs.StatementsSound.{part_yields, stmt_yields}
-use Rattle.xs_csyn.proofs.Yields.{at}
-use Rattle.xs_csyn.specs.FaultPlaces.{BlockFaultLaw, IsBlock, IsBlockBut, IsBlockWithin, IsFiller}
+use Rattle.xs_csyn.specs.FaultPlaces.{BlockFaultLaw, IsBlock, IsBlockWithin, IsFiller}
 use Rattle.xs_csyn.specs.FileGrammar.{AreNames}
 use Rattle.xs_csyn.specs.FileReader.{block_of, first_of_pair, rest_from, rest_of, start}
 use Rattle.xs_csyn.specs.Prefixes.{tallest_of_but}
 use Rattle.xs_cstmt.specs.StatementHeights.{depths}
+use Rattle.xs_csyn.specs.TokenTexts.{AreSpelt}
 use Rattle.xs_csyn.specs.StatementGrammar as g
 use Rattle.xs_csyn.specs.StatementGrammar.{Rest}
 use Rattle.xs_cstmt.specs.StatementReader.{max_nesting, stmt}
@@ -75,15 +76,34 @@ block_read : (b : Input) → AreNames b.types → (room : ℕ) (Any : Type 0) (u
 block_read b names room Any us k few w =
     (_, rest_done Any (turned b k us) names room w.1 (under w.2 (λ fit. fit.0)) (under w.2 (λ fit. fit.1)) few k few [])
 
+-- What stands in a block so many levels over the bounds, where a name counts as nothing.
+abbrev Begun : List (List ℕ) → ℕ → Token → ℕ → List Token → Type 0
+Begun types room x over us = (all : StmtTrees) × Rest types all us × (depths all ≤ room + over) × (tallest_of_but x.text all ≤ max_nesting + over)
+
 pub block_fault_law : BlockFaultLaw
 unfolding block_of
 block_fault_law file last types around ts f x names spelt fill h =
     let b : Input = start false ts types file last in
-    let room : ℕ = max_nesting - around in
     let good : Good proper b.turns (kept false ts) = (omega (arith, kept_shrinks false false ts), spelt) in
     let e : rest_from (stmt room) b.turns [] b ≡ Err f = read_fault (rest_of room b) f h in
-    let v = rest_begins (λ over us. (all : StmtTrees) × Rest types all us × (depths all ≤ room + over) ×
-    (tallest_of_but x.text all ≤ max_nesting + over)) b x fill names room (suc (length (kept false ts))) [] (λ js. js) (λ over all ws q a low. (all, q, a, low))
-    (kept false ts) (omega arith) in
-    stands_from {Any = IsBlock types} {r = λ k. rest_from (stmt room) k []} (fill.is_spelt, tt) (λ us t. (t.0, t.1, omega (arith, t.2), omega (arith, t.3)))
-    (λ over us t. (t.0, t.1)) (given_fault file last types around) (block_read b names room) (v.breaks good f e) good e
+    stands_from {Any = IsBlock types} {Texts = Begun types room} {r = λ k. rest_from (stmt room) k []} (λ us. Unit {0}) (λ us n. tt) (λ p us t. tt)
+    (fill.is_spelt, tt) (variable_name types x fill.is_variable) (λ us t. (t.0, t.1, omega (arith, t.2), omega (arith, t.3)))
+    (λ y over us t. (t.0, t.1)) (λ more m some. given_fault file last types around more m) (λ Deep us k some. block_read b names room Deep us k)
+    (λ Deep us none d t. (t.0, t.1, inr d)) (λ more m some are e'. run more m are e')
+    ((begins b fill names (kept false ts)).breaks good f e) good e
+  where
+    room : ℕ
+    room = max_nesting - around
+
+    begins : (b : Input) → IsFiller b.types x → AreNames b.types → (ts : List Token)
+        → Viable proper x (suc far) (Begun b.types room x) b (λ js. js) (λ k. rest_from (stmt room) k []) ts
+    begins b fill names ts =
+        rest_begins (Begun b.types room x) b x fill names room (suc (length ts)) [] (λ js. js) (λ over all ws q a low. (all, q, a, low)) ts (omega arith)
+
+    run : (more : List Token) (m : Fault) → AreSpelt (kept false more) → block_of file last types around more ≡ Err m
+        → NamedRun proper (suc far) (Begun types room) (start false more types file last) (λ k. rest_from (stmt room) k []) (kept false more) m
+    run more m are e' =
+        let b : Input = start false more types file last in
+        let good : Good proper b.turns (kept false more) = (omega (arith, kept_shrinks false false more), are) in
+        let e : rest_from (stmt room) b.turns [] b ≡ Err m = read_fault (rest_of room b) m e' in
+        record { filler = x; run = (begins b fill names (kept false more)).breaks good m e; good = good; fails = e }

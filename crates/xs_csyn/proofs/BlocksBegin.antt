@@ -1,11 +1,11 @@
 -- Where reading statements breaks off, the tokens that were passed begin some.
-use Rattle.std.proofs.Common.{◌≡◌, ℕ, zero, suc, ◌+◌, ◌<◌, ◌≤◌, ◌&&◌, max, not, Bool, true, false, if◌then◌else◌, List, [], ◌∷◌, ◌++◌, length, Some, None, refl, ap, sym, subst, ◌∙◌, arith}
-use Rattle.std.proofs.lemmas.Bool.{and_parts, not-true}
+use Rattle.std.proofs.Common.{◌≡◌, ℕ, zero, suc, ◌+◌, ◌<◌, ◌≤◌, max, Bool, true, false, List, [], ◌∷◌, ◌++◌, length, Some, None, refl, ap, sym, subst, ◌∙◌, arith}
 use Rattle.std.specs.Prelude.{codes}
 use Rattle.xs_base.specs.Readers.{◌>>=◌, pure}
 use Rattle.xs_ctok.specs.declared.token.Token.{Token}
-use Rattle.xs_csyn.proofs.Breaks.{Onward, Viable, after_token, alike_viable, breaks_here, by_bool, by_eat, by_expect, by_here, by_option, by_test, by_word, finished, onward, read, retold, sign_here, step}
-use Rattle.xs_csyn.proofs.ExpressionsBegin.{sign, sign_spelt, word_spelt, word}
+use Rattle.xs_csyn.proofs.Breaks.{Onward, Viable, after_token, alike_viable, breaks_here, by_bool, by_option, by_test, finished, onward, read, retold, sign_here, step}
+use Rattle.xs_csyn.proofs.TokenBreaks.{by_eat, by_expect, by_here, by_word}
+use Rattle.xs_csyn.proofs.TypesBegin.{sign, sign_spelt, word_spelt, word}
 use Rattle.xs_csyn.proofs.FormRests.{form_first}
 use Rattle.xs_csyn.proofs.FormSlots.{row_facts}
 use Rattle.xs_csyn.proofs.FormsBegin.{NoElse, far, form_rest_begins}
@@ -18,7 +18,7 @@ use Rattle.xs_csyn.proofs.MoreTurns.{body_same, groups_same, parts_same}
 use Rattle.xs_csyn.proofs.PlainLocal.{condition_local, for_head_local, labels_local}
 use Rattle.xs_csyn.proofs.StatementsLocal as local
 use Rattle.xs_csyn.proofs.StatementsLocal.{begins_row, begins_same, ends_tells, group_local, opener_tells, part_declares, part_ends, part_local, part_states, simple_stmt, stmt_local}
-use Rattle.xs_csyn.proofs.Marks.{words}
+use Rattle.xs_csyn.proofs.Marks.{mark_no_name, word_no_name, words}
 use Rattle.xs_csyn.proofs.Sizes.{part_shrinks, stmt_shrinks}
 use Rattle.xs_csyn.proofs.StatementFrames.{Fine, condition_frame, for_head_frame, labels_frame, part_standing, stmt_standing, stmts_standing}
 use Rattle.xs_csyn.proofs.StatementsBegin.{condition_begins, declaration_after_begins, declared_name, declared_text, fine_with, for_head_begins, groups_no_else, labels_begin, name_whole, parts_no_else, simple_begins, stmt_no_else}
@@ -39,6 +39,7 @@ use Rattle.xs_cstmt.specs.StatementTree as tree_stmt
 use Rattle.xs_cexpr.specs.ExpressionTree.{ExprTree}
 use Rattle.xs_cstmt.specs.StatementTree.{DeclaredTree, GroupTree, GroupTrees, StmtTree, StmtTrees, stmts_of}
 use Rattle.xs_cinput.specs.TokenInput.{Input, Reader, is_type, line, next, sees, sees_word}
+use Rattle.xs_ctok.specs.CWords.{is_no_name}
 use Rattle.xs_cstmt.specs.declared.forms.Form.{Form}
 use Rattle.xs_cstmt.specs.declared.openers.Opener.{Opener}
 use Rattle.xs_cstmt.specs.declared.openers.Opener.TheVariants as opens
@@ -162,8 +163,8 @@ module _ (Text : ℕ → List Token → Type 0) (b : Input) (x : Token) (vx : Is
           b x vx sx nx t is (λ js. js) us su (λ over one ws q low. (one, q, low)) ts)
           (λ w front rest more here over y. declared_text Text b x vx sx nx over d us su made (t ∷ ts) is isnt (λ js. t ∷ w js) (front_one t front) rest more
           (ap (λ l. t ∷ l) here) y.0 y.1 y.2)
-          (λ w front rest more long here y. declared_name Text b x vx sx nx d us su made (t ∷ ts) isnt (λ js. t ∷ w js) (front_one t front) rest more
-          (omega (arith, long)) (ap (λ l. t ∷ l) here) y.0 y.1 y.2)))
+          (λ w front rest over u more long here y. declared_name Text b x vx sx nx d us su made (t ∷ ts) isnt (λ js. t ∷ w js) (front_one t front) rest
+          over u more (omega (arith, long)) (ap (λ l. t ∷ l) here) y.0 y.1 y.2)))
           (λ js k n good. part_declares b room inner t js k is (begins_same b.types t ts js n ∙ isnt))
 
       by : (c e : Bool) → is_type b.types t ≡ c → begins_form_at b.types (t ∷ ts) ≡ e → Viable proper x (suc far) Text b d (λ k. part (stmt room)) (t ∷ ts)
@@ -388,6 +389,15 @@ module _ (Text : ℕ → List Token → Type 0) (b : Input) (x : Token) (vx : Is
   opened_begins opens.For t w d us su ne fin ts = for_begins t w d us su ne fin ts
   opened_begins opens.Switch t w d us su ne fin ts = switch_begins t w d us su fin ts
 
+-- No word that opens a statement is a name.
+opener_no_name : (o : Opener) → is_no_name (word_of o) ≡ true
+unfolding is_no_name
+opener_no_name opens.If = refl
+opener_no_name opens.While = refl
+opener_no_name opens.Do = refl
+opener_no_name opens.For = refl
+opener_no_name opens.Switch = refl
+
 -- Each word that opens a statement goes on to the shortest one.
 opened_text : (Text : ℕ → List Token → Type 0) (b : Input) (x : Token) → IsVariable b.types x → IsSpelt x → form_row x ≡ None → AreNames b.types
     → (d : List Token → List Token) (us : List Token) → AreSpelt us → NoElse us
@@ -464,12 +474,14 @@ stmt_begins Text b x vx sx nx names zero d us su ne fin (t ∷ ts) =
     let stop : Token = sign x (codes ";") in
     let brace : Token = sign x (codes "}") in
     by_test (sees (codes "{")) (sees_tells b (codes "{") (t ∷ ts))
-    (λ is. sign_here t (stop ∷ us) (fin 0 (tree_stmt.Empty x.span.line) (stop ∷ us) (g.empty refl) (omega arith) (omega arith)) 2 (brace ∷ us)
+    (λ is. sign_here t (mark_no_name (codes "{") t is) (stop ∷ us)
+    (fin 0 (tree_stmt.Empty x.span.line) (stop ∷ us) (g.empty refl) (omega arith) (omega arith)) 2 (brace ∷ us)
     (sign_spelt x (codes "}") refl, su)
     (fin 2 (tree_stmt.Block t.span.line tree_stmt.NoStmts) (t ∷ brace ∷ us) (g.block is (g.over refl)) (omega arith) (omega arith)) (λ js k n. refl))
     (λ isnt. by_option opener (opener_tells b (t ∷ ts))
     (λ o is. let z = opened_text Text b x vx sx nx names d us su ne fin o t (opened_word t o is) in
-    sign_here t (stop ∷ us) (fin 0 (tree_stmt.Empty x.span.line) (stop ∷ us) (g.empty refl) (omega arith) (omega arith)) 2 z.0 z.1 z.2 (λ js k n. refl))
+    sign_here t (word_no_name (word_of o) t (opened_word t o is) (opener_no_name o)) (stop ∷ us)
+    (fin 0 (tree_stmt.Empty x.span.line) (stop ∷ us) (g.empty refl) (omega arith) (omega arith)) 2 z.0 z.1 z.2 (λ js k n. refl))
     (λ none. simple_begins Text b x vx sx nx names d us su ne (λ over s ws q a low. fin over s ws q (omega (arith, a)) low) (t ∷ ts)))
 stmt_begins Text b x vx sx nx names (suc below) d us su ne fin [] =
     alike_viable (simple_begins Text b x vx sx nx names d us su ne (λ over s ws q a low. fin over s ws q (omega (arith, a)) low) [])

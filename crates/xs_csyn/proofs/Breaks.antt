@@ -3,13 +3,11 @@
 use Rattle.std.proofs.Common.{◌≡◌, ◌⊎◌, inl, inr, ℕ, suc, ◌+◌, ◌<◌, ◌≤◌, Bool, true, false, if◌then◌else◌, List, [], ◌∷◌, ◌++◌, length, length-append, Option, Some, None, Result, Ok, Err, refl, ap, subst, sym, ◌∙◌, arith}
 use Rattle.std.specs.Option.{option_map_or}
 use Rattle.xs_base.proofs.ReaderSteps.{same_outcome}
-use Rattle.xs_base.specs.Readers.{and_then, head_is, tail}
+use Rattle.xs_base.specs.Readers.{and_then, head_is}
 use Rattle.xs_base.specs.Reading.{fault_in}
 use Rattle.xs_base.specs.declared.fault.Fault.{Fault}
-use Rattle.xs_base.specs.declared.fault_codes.TheConstants.{NESTED_TOO_DEEP}
 use Rattle.xs_ctok.specs.declared.token.Token.{Token}
-use Rattle.xs_cinput.specs.TokenInput.{Input, Outcome, Reader, a_name, a_variable, after, consumed, expect, expect_word, fault, here, is_name, is_sign, is_type, is_variable, is_word, line, line_at, next, passed, sees, sees_name, sees_type, sees_variable, sees_word, spelling}
-use Rattle.xs_cinput.specs.TypeReader.{a_type_word}
+use Rattle.xs_cinput.specs.TokenInput.{Input, Outcome, Reader, fault, is_name, line, line_at}
 use Rattle.xs_csyn.proofs.Frames.{Frame, IsFront, front_both, front_none, front_one}
 use Rattle.xs_csyn.proofs.Local.{Good, Local, Meant, NextTells, comes_to, good_after, next_stays, same_first, same_next, turned, Are}
 use Rattle.xs_csyn.proofs.Yields.{Yields, at}
@@ -64,25 +62,31 @@ next_long {w} {ts} {rest} f long here us = by f.before refl
 
 -- ---- what may come next, so that the fault is at the same place
 
--- The same token, and where any operand is too deep this name too.
-pub data MayCome (x : Token) (opens : Bool) (rest us : List Token) : Type 0 where
-  alike : SameNext rest us → MayCome x opens rest us
-  other : opens ≡ true → (js : List Token) → us ≡ x ∷ js → MayCome x opens rest us
+-- The same token, and where any operand is too deep whatever the fault stays at.
+pub data MayCome (opens : Bool) (stays : List Token → Bool) (rest us : List Token) : Type 0 where
+  alike : SameNext rest us → MayCome opens stays rest us
+  other : opens ≡ true → stays us ≡ true → MayCome opens stays rest us
 
-pub next_may : {w : List Token → List Token} {ts rest : List Token} {x : Token} {n : ℕ} {opens : Bool} (f : IsFront w)
-    → (opens ≡ true → suc n ≤ length f.before) → w rest ≡ ts → (us : List Token) → MayCome x opens rest us → SameNext ts (w us)
+-- Where any operand is too deep, the fault stays at this name, at the end, and at each other token but those that a text goes on with.
+pub record Staying (x : Token) (stays : List Token → Bool) (Goes : ℕ → Token → Type 0) : Type 0 where
+  pub named : (js : List Token) → stays (x ∷ js) ≡ true
+  pub ended : stays [] ≡ true
+  pub gone : (t : Token) (js : List Token) → stays (t ∷ js) ≡ false → (over : ℕ) × Goes over t
+
+pub next_may : {w : List Token → List Token} {ts rest : List Token} {n : ℕ} {opens : Bool} {stays : List Token → Bool} (f : IsFront w)
+    → (opens ≡ true → suc n ≤ length f.before) → w rest ≡ ts → (us : List Token) → MayCome opens stays rest us → SameNext ts (w us)
 next_may f long here us (alike e) = next_in f here us e
-next_may f long here us (other o js e) = next_long f (omega (arith, long o)) here us
+next_may f long here us (other o e) = next_long f (omega (arith, long o)) here us
 
--- the first token is the same, or it is this name
-pub next_or : {w : List Token → List Token} {ts rest : List Token} {x : Token} {opens : Bool} (f : IsFront w) → w rest ≡ ts → (us : List Token)
-    → MayCome x opens rest us → SameNext ts (w us) ⊎ ((js : List Token) × (w us ≡ x ∷ js))
-next_or f here us (alike e) = inl (next_in f here us e)
-next_or {w} {ts} {rest} {x} f here us (other o js e) = by f.before refl
+-- the first token is the same whatever comes, or no token stands in front
+pub fronted : {w : List Token → List Token} {ts rest : List Token} (f : IsFront w) → w rest ≡ ts
+    → ((us : List Token) → SameNext ts (w us)) ⊎ ((us : List Token) → w us ≡ us)
+fronted {w} {ts} {rest} f here = by f.before refl
   where
-    by : (before : List Token) → f.before ≡ before → SameNext ts (w us) ⊎ ((js : List Token) × (w us ≡ x ∷ js))
-    by [] none = inr (js, f.is us ∙ (ap (λ l. l ++ us) none ∙ e))
-    by (t ∷ p) some = inl (next_long f (let long : length f.before ≡ suc (length p) = ap (λ (l : List Token). length l) some in omega (arith, long)) here us)
+    by : (before : List Token) → f.before ≡ before → ((us : List Token) → SameNext ts (w us)) ⊎ ((us : List Token) → w us ≡ us)
+    by [] none = inr (λ us. f.is us ∙ ap (λ l. l ++ us) none)
+    by (t ∷ p) some = let long : length f.before ≡ suc (length p) = ap (λ (l : List Token). length l) some in
+        inl (λ us. next_long f (omega (arith, long)) here us)
 
 -- ---- a run that succeeds has come to the place that the record has
 
@@ -111,10 +115,11 @@ local_run {s} {A} {b} {p} {ts} {us} {a} x good e = by x.answer refl
 
 -- ---- the place of a fault
 
--- Why a node would stand too deep: whatever operand comes, or with the token that comes. `Text over` are the texts that stand so many levels over the bounds.
+-- Why a node would stand too deep: whatever operand comes, or with the token that comes, which is no name. `Text over` are the texts that stand so
+-- many levels over the bounds.
 pub data Cause (x : Token) (opens : Bool) (rest : List Token) (Goes : ℕ → Token → Type 0) : Type 0 where
   operand : opens ≡ true → Goes 0 x → Cause x opens rest Goes
-  sign : (over : ℕ) (t : Token) (us : List Token) → rest ≡ t ∷ us → Goes over t → Cause x opens rest Goes
+  sign : (over : ℕ) (t : Token) (us : List Token) → rest ≡ t ∷ us → is_name t ≡ false → Goes over t → Cause x opens rest Goes
 
 -- The reader has its fault at the rest of these tokens, whatever comes after the next one, and with those in front a text is made that is wanted.
 -- Where any operand would be too deep, at least `n` tokens stand in front of it.
@@ -126,9 +131,11 @@ pub record Breaks {A : Type 0} (s : Meant) (x : Token) (n : ℕ) (Text : ℕ →
   pub here : w rest ≡ ts
   pub deep : Bool
   pub opens : Bool
+  pub stays : List Token → Bool
   pub long : opens ≡ true → n ≤ length front.before
-  pub same : (us : List Token) (k : ℕ) → MayCome x opens rest us → Good s k (w us)
+  pub same : (us : List Token) (k : ℕ) → MayCome opens stays rest us → Good s k (w us)
       → r k (turned b k (w us)) ≡ Err (fault (code_of deep) (turned b k us))
+  pub staying : opens ≡ true → Staying x stays (λ over t. (us : List Token) × Are s us × Text over (d (w (t ∷ us))))
   pub more : List Token
   pub text : Text 0 (d (w more))
   pub cause : deep ≡ true → Cause x opens rest (λ over t. (us : List Token) × Are s us × Text over (d (w (t ∷ us))))
@@ -178,10 +185,11 @@ pub retold : {s : Meant} {A : Type 0} {x : Token} {n : ℕ} {Text Told : ℕ →
     {ts : List Token} → Viable s x n Told b e r ts
     → ((w : List Token → List Token) → IsFront w → (rest more : List Token) → w rest ≡ ts → (over : ℕ) → Told over (e (w more))
     → (js : List Token) × (Are s more → Are s js) × Text over (d (w js)))
-    → ((w : List Token → List Token) (f : IsFront w) (rest more : List Token) → n ≤ length f.before → w rest ≡ ts → Told 0 (e (w (x ∷ more)))
-    → (js : List Token) × (Are s more → Are s js) × Text 0 (d (w (x ∷ js))))
+    → ((w : List Token → List Token) (f : IsFront w) (rest : List Token) (over : ℕ) (t : Token) (more : List Token) → n ≤ length f.before → w rest ≡ ts
+    → Told over (e (w (t ∷ more)))
+    → (js : List Token) × (Are s more → Are s js) × Text over (d (w (t ∷ js))))
     → Viable s x n Text b d r ts
-retold {s = s} {x = x} {n = n} {Text = Text} {Told = Told} {d = d} {e = e} {ts = ts} v tell tell_name = record {
+retold {s = s} {x = x} {n = n} {Text = Text} {Told = Told} {d = d} {e = e} {ts = ts} v tell tell_far = record {
   breaks = λ good f h.
       let y = v.breaks good f h in
       let z = tell y.w y.front y.rest y.more y.here 0 y.text in
@@ -192,27 +200,36 @@ retold {s = s} {x = x} {n = n} {Text = Text} {Told = Told} {d = d} {e = e} {ts =
         here = y.here;
         deep = y.deep;
         opens = y.opens;
+        stays = y.stays;
         long = y.long;
         same = y.same;
+        staying = λ o. still y.w y.front y.rest y.here (y.long o) (y.staying o);
         more = z.0;
         text = z.2;
         cause = λ deep. caused y.w y.front y.rest y.here y.long (y.cause deep);
       };
 }
   where
+    still : {stays : List Token → Bool} (w : List Token → List Token) (f : IsFront w) (rest : List Token) → w rest ≡ ts → n ≤ length f.before
+        → Staying x stays (λ over t. (us : List Token) × Are s us × Told over (e (w (t ∷ us))))
+        → Staying x stays (λ over t. (us : List Token) × Are s us × Text over (d (w (t ∷ us))))
+    still w f rest here long z = record {
+      named = z.named;
+      ended = z.ended;
+      gone = λ t js e.
+          let g = z.gone t js e in
+          let q = tell_far w f rest g.0 t g.1.0 long here g.1.2 in (g.0, (q.0, q.1 g.1.1, q.2));
+    }
+
     caused : {opens : Bool} (w : List Token → List Token) (f : IsFront w) (rest : List Token) → w rest ≡ ts → (opens ≡ true → n ≤ length f.before)
         → Cause x opens rest (λ over t. (us : List Token) × Are s us × Told over (e (w (t ∷ us))))
         → Cause x opens rest (λ over t. (us : List Token) × Are s us × Text over (d (w (t ∷ us))))
     caused w f rest here long (operand o g) =
-        let z = tell_name w f rest g.0 (long o) here g.2 in
+        let z = tell_far w f rest 0 x g.0 (long o) here g.2 in
         operand o (z.0, z.1 g.1, z.2)
-    caused w f rest here long (sign over t us is g) =
+    caused w f rest here long (sign over t us is nameless g) =
         let z = tell (λ js. w (t ∷ js)) (front_both f (front_one t front_none)) us g.0 (ap w (sym is) ∙ here) over g.2 in
-        sign over t us is (z.0, z.1 g.1, z.2)
-
--- a test of the next token that does not pass
-unpassed : (test : Token → Bool) (u : Token) (us js : List Token) → test u ≡ false → SameNext (u ∷ us) js → head_is test js ≡ false
-unpassed test u us js e n = same_first (head_is test) test (λ t ks. refl) (u ∷ us) js n ∙ e
+        sign over t us is nameless (z.0, z.1 g.1, z.2)
 
 module _ {s : Meant} {x : Token} {Text : ℕ → List Token → Type 0} {b : Input} where
   -- a reader that gives something here
@@ -232,17 +249,19 @@ module _ {s : Meant} {x : Token} {Text : ℕ → List Token → Type 0} {b : Inp
           here = refl;
           deep = false;
           opens = false;
+          stays = λ us. false;
           long = λ o. absurd cc;
           same = λ us k n' g. e us k (same_only us n');
+          staying = λ o. absurd cc;
           more = more;
           text = text;
           cause = λ is. absurd cc;
         };
   }
     where
-      same_only : (us : List Token) → MayCome x false ts us → SameNext ts us
+      same_only : (us : List Token) → MayCome false (λ js. false) ts us → SameNext ts us
       same_only us (alike n) = n
-      same_only us (other o js e) = absurd cc
+      same_only us (other o e) = absurd cc
 
   -- an operand would be too deep here, whatever it is
   pub operand_here : {A : Type 0} {d : List Token → List Token} {ts : List Token} {r : ℕ → Reader A} (more : List Token) → Are s more → Text 0 (d (x ∷ more))
@@ -256,8 +275,10 @@ module _ {s : Meant} {x : Token} {Text : ℕ → List Token → Type 0} {b : Inp
           here = refl;
           deep = true;
           opens = true;
+          stays = λ us. true;
           long = λ o. omega arith;
           same = λ us k n g. e us k;
+          staying = λ o. record { named = λ js. refl; ended = refl; gone = λ t js nameless. absurd cc };
           more = x ∷ more;
           text = text;
           cause = λ is. operand refl (more, are, text);
@@ -265,11 +286,12 @@ module _ {s : Meant} {x : Token} {Text : ℕ → List Token → Type 0} {b : Inp
   }
 
   -- what this token goes on with is too deep
-  pub sign_here : {A : Type 0} {n : ℕ} {d : List Token → List Token} (t : Token) {ts : List Token} {r : ℕ → Reader A} (more : List Token) → Text 0 (d more)
+  pub sign_here : {A : Type 0} {n : ℕ} {d : List Token → List Token} (t : Token) {ts : List Token} {r : ℕ → Reader A} → is_name t ≡ false
+      → (more : List Token) → Text 0 (d more)
       → (over : ℕ) (us : List Token) → Are s us → Text over (d (t ∷ us))
       → ((us : List Token) (k : ℕ) → SameNext (t ∷ ts) us → r k (turned b k us) ≡ Err (fault (code_of true) (turned b k us)))
       → Viable s x n Text b d r (t ∷ ts)
-  sign_here t {ts} more text over us are goes e = record {
+  sign_here t {ts} nameless more text over us are goes e = record {
     breaks = λ good f h.
         record {
           rest = t ∷ ts;
@@ -278,17 +300,19 @@ module _ {s : Meant} {x : Token} {Text : ℕ → List Token → Type 0} {b : Inp
           here = refl;
           deep = true;
           opens = false;
+          stays = λ js. false;
           long = λ o. absurd cc;
           same = λ js k n g. e js k (same_only js n);
+          staying = λ o. absurd cc;
           more = more;
           text = text;
-          cause = λ is. sign over t ts refl (us, are, goes);
+          cause = λ is. sign over t ts refl nameless (us, are, goes);
         };
   }
     where
-      same_only : (us : List Token) → MayCome x false (t ∷ ts) us → SameNext (t ∷ ts) us
+      same_only : (us : List Token) → MayCome false (λ js. false) (t ∷ ts) us → SameNext (t ∷ ts) us
       same_only us (alike n) = n
-      same_only us (other o js e) = absurd cc
+      same_only us (other o e) = absurd cc
 
   -- fewer tokens in front are enough
   pub fewer : {A : Type 0} {n m : ℕ} {d : List Token → List Token} {ts : List Token} {r : ℕ → Reader A} → n ≤ m → Viable s x m Text b d r ts
@@ -303,21 +327,22 @@ module _ {s : Meant} {x : Token} {Text : ℕ → List Token → Type 0} {b : Inp
           here = y.here;
           deep = y.deep;
           opens = y.opens;
+          stays = y.stays;
           long = λ o. omega (arith, le, y.long o);
           same = y.same;
+          staying = y.staying;
           more = y.more;
           text = y.text;
           cause = y.cause;
         };
   }
 
-  -- the same of a reader that reads so where this token is next, and where the name is
-  pub alike_or : {A : Type 0} {n : ℕ} {d : List Token → List Token} {ts : List Token} {p r : ℕ → Reader A} → Viable s x n Text b d p ts
-      → ((us : List Token) (k : ℕ) → SameNext ts us → Good s k us → r k (turned b k us) ≡ p k (turned b k us))
-      → ((us : List Token) (k : ℕ) → Good s k (x ∷ us) → r k (turned b k (x ∷ us)) ≡ p k (turned b k (x ∷ us))) → Viable s x n Text b d r ts
-  alike_or {A} {n} {d} {ts} {p} {r} v e e' = record {
+  -- the same of a reader that reads so, whatever comes
+  pub alike_all : {A : Type 0} {n : ℕ} {d : List Token → List Token} {ts : List Token} {p r : ℕ → Reader A} → Viable s x n Text b d p ts
+      → ((us : List Token) (k : ℕ) → Good s k us → r k (turned b k us) ≡ p k (turned b k us)) → Viable s x n Text b d r ts
+  alike_all {ts = ts} v e = record {
     breaks = λ good f h.
-        let y = v.breaks good f (sym (e ts b.turns (same_next ts) good) ∙ h) in
+        let y = v.breaks good f (sym (e ts b.turns good) ∙ h) in
         record {
           rest = y.rest;
           w = y.w;
@@ -325,23 +350,87 @@ module _ {s : Meant} {x : Token} {Text : ℕ → List Token → Type 0} {b : Inp
           here = y.here;
           deep = y.deep;
           opens = y.opens;
+          stays = y.stays;
           long = y.long;
-          same = λ us k n g. way (y.w us) k (next_or y.front y.here us n) g ∙ y.same us k n g;
+          same = λ us k n g. e (y.w us) k g ∙ y.same us k n g;
+          staying = y.staying;
           more = y.more;
           text = y.text;
           cause = y.cause;
         };
   }
-    where
-      way : (us : List Token) (k : ℕ) → SameNext ts us ⊎ ((js : List Token) × (us ≡ x ∷ js)) → Good s k us → r k (turned b k us) ≡ p k (turned b k us)
-      way us k (inl n) g = e us k n g
-      way us k (inr z) g =
-          subst (λ (l : List Token). r k (turned b k l) ≡ p k (turned b k l)) (sym z.1) (e' z.0 k (subst (λ (l : List Token). Good s k l) z.1 g))
 
-  -- the same of a reader that reads so, whatever comes
-  pub alike_all : {A : Type 0} {n : ℕ} {d : List Token → List Token} {ts : List Token} {p r : ℕ → Reader A} → Viable s x n Text b d p ts
-      → ((us : List Token) (k : ℕ) → Good s k us → r k (turned b k us) ≡ p k (turned b k us)) → Viable s x n Text b d r ts
-  alike_all v e = alike_or v (λ us k n g. e us k g) (λ us k g. e (x ∷ us) k g)
+  -- The same of a reader that reads so where a test is not passed, as it is by no name, and a text goes on with what passes it.
+  pub narrowed : {A : Type 0} {n : ℕ} {d : List Token → List Token} {ts : List Token} {p r : ℕ → Reader A} (test : Token → Bool) → test x ≡ false
+      → head_is test ts ≡ false → ((t : Token) → test t ≡ true → (over : ℕ) × ((us : List Token) × Are s us × Text over (d (t ∷ us))))
+      → Viable s x n Text b d p ts
+      → ((us : List Token) (k : ℕ) → head_is test us ≡ false → r k (turned b k us) ≡ p k (turned b k us)) → Viable s x n Text b d r ts
+  narrowed {A} {n} {d} {ts} {p} {r} test no_name next goes v even = record {
+    breaks = λ good f h. kept_here (v.breaks good f (sym (even ts b.turns next) ∙ h));
+  }
+    where
+      both : (c e : Bool) → (if c then false else e) ≡ true → (c ≡ false) × (e ≡ true)
+      both false e h = (refl, h)
+      both true e h = absurd cc
+
+      from_both : (c e : Bool) → c ≡ false → e ≡ true → (if c then false else e) ≡ true
+      from_both false e h h' = h'
+      from_both true e h h' = absurd cc
+
+      seen : (us : List Token) → SameNext ts us → head_is test us ≡ false
+      seen us n = same_first (head_is test) test (λ t js. refl) ts us n ∙ next
+
+      kept_here : Breaks s x n Text b d p ts → Breaks s x n Text b d r ts
+      kept_here y = record {
+        rest = y.rest;
+        w = y.w;
+        front = y.front;
+        here = y.here;
+        deep = y.deep;
+        opens = y.opens;
+        stays = λ us. if head_is test (y.w us) then false else y.stays us;
+        long = y.long;
+        same = λ us k c g. even (y.w us) k (missed us c) ∙ y.same us k (wider us c) g;
+        staying = λ o.
+            let z = y.staying o in
+            record {
+              named = λ js. from_both (head_is test (y.w (x ∷ js))) (y.stays (x ∷ js)) (unseen (x ∷ js) no_name) (z.named js);
+              ended = from_both (head_is test (y.w [])) (y.stays []) (unseen [] refl) z.ended;
+              gone = λ t js e. by_seen z t js (head_is test (y.w (t ∷ js))) refl e;
+            };
+        more = y.more;
+        text = y.text;
+        cause = y.cause;
+      }
+        where
+          missed : (us : List Token) → MayCome y.opens (λ js. if head_is test (y.w js) then false else y.stays js) y.rest us → head_is test (y.w us) ≡ false
+          missed us (alike n) = seen (y.w us) (next_in y.front y.here us n)
+          missed us (other o e) = (both (head_is test (y.w us)) (y.stays us) e).0
+
+          wider : (us : List Token) → MayCome y.opens (λ js. if head_is test (y.w js) then false else y.stays js) y.rest us → MayCome y.opens y.stays y.rest us
+          wider us (alike n) = alike n
+          wider us (other o e) = other o (both (head_is test (y.w us)) (y.stays us) e).1
+
+          unseen : (us : List Token) → head_is test us ≡ false → head_is test (y.w us) ≡ false
+          unseen us e = by (fronted y.front y.here)
+            where
+              by : ((js : List Token) → SameNext ts (y.w js)) ⊎ ((js : List Token) → y.w js ≡ js) → head_is test (y.w us) ≡ false
+              by (inl same) = seen (y.w us) (same us)
+              by (inr none) = ap (head_is test) (none us) ∙ e
+
+          first_goes : (t : Token) (js : List Token) → head_is test (y.w (t ∷ js)) ≡ true
+              → ((us : List Token) → SameNext ts (y.w us)) ⊎ ((us : List Token) → y.w us ≡ us)
+              → (over : ℕ) × ((us : List Token) × Are s us × Text over (d (y.w (t ∷ us))))
+          first_goes t js e (inl same) = absurd (let wrong : true ≡ false = sym e ∙ seen (y.w (t ∷ js)) (same (t ∷ js)) in cc)
+          first_goes t js e (inr none) =
+              let q = goes t (ap (head_is test) (sym (none (t ∷ js))) ∙ e) in
+              (q.0, (q.1.0, q.1.1, subst (λ (l : List Token). Text q.0 (d l)) (sym (none (t ∷ q.1.0))) q.1.2))
+
+          by_seen : Staying x y.stays (λ over t. (us : List Token) × Are s us × Text over (d (y.w (t ∷ us)))) → (t : Token) (js : List Token) (c : Bool)
+              → head_is test (y.w (t ∷ js)) ≡ c → (if head_is test (y.w (t ∷ js)) then false else y.stays (t ∷ js)) ≡ false
+              → (over : ℕ) × ((us : List Token) × Are s us × Text over (d (y.w (t ∷ us))))
+          by_seen z t js true e h = first_goes t js e (fronted y.front y.here)
+          by_seen z t js false e h = z.gone t js (sym (ap (λ c. if c then false else y.stays (t ∷ js)) e) ∙ h)
 
   -- the same of a reader that reads so
   pub alike_viable : {A : Type 0} {n : ℕ} {d : List Token → List Token} {ts : List Token} {p r : ℕ → Reader A} → Viable s x (suc n) Text b d p ts
@@ -356,8 +445,10 @@ module _ {s : Meant} {x : Token} {Text : ℕ → List Token → Type 0} {b : Inp
           here = y.here;
           deep = y.deep;
           opens = y.opens;
+          stays = y.stays;
           long = y.long;
           same = λ us k c g. e (y.w us) k (next_may {n = n} y.front (λ o. omega (arith, y.long o)) y.here us c) g ∙ y.same us k c g;
+          staying = y.staying;
           more = y.more;
           text = y.text;
           cause = y.cause;
@@ -376,7 +467,7 @@ module _ {s : Meant} {x : Token} {Text : ℕ → List Token → Type 0} {b : Inp
   -- A fault further on, where the reader goes on so after these tokens. `Near` is what the reader's going on asks for.
   later : {A B : Type 0} {n m : ℕ} {d : List Token → List Token} {ts us : List Token} {r : ℕ → Reader A} {q : ℕ → Reader B} (w : List Token → List Token)
       (front : IsFront w) → w us ≡ ts → (y : Breaks s x m Text b (λ js. d (w js)) q us) → n ≤ length front.before + m → (Near : List Token → Type 0)
-      → ((vs : List Token) → MayCome x y.opens y.rest vs → Near (y.w vs))
+      → ((vs : List Token) → MayCome y.opens y.stays y.rest vs → Near (y.w vs))
       → ((js : List Token) (k : ℕ) (deep : Bool) (ks : List Token) → Near js → Good s k (w js)
       → q k (turned b k js) ≡ Err (fault (code_of deep) (turned b k ks)) → r k (turned b k (w js)) ≡ Err (fault (code_of deep) (turned b k ks)))
       → Breaks s x n Text b d r ts
@@ -387,15 +478,17 @@ module _ {s : Meant} {x : Token} {Text : ℕ → List Token → Type 0} {b : Inp
     here = ap w y.here ∙ here;
     deep = y.deep;
     opens = y.opens;
+    stays = y.stays;
     long = λ o. omega (arith, le, y.long o, length-append front.before y.front.before);
     same = λ us k n g. e (y.w us) k y.deep us (near us n) g (y.same us k n (good_in s front (y.w us) k g));
+    staying = y.staying;
     more = y.more;
     text = y.text;
     cause = y.cause;
   }
 
   -- after a token, where the reader reads so whatever comes
-  after_any : {A : Type 0} {n m : ℕ} {d : List Token → List Token} → n ≤ suc m → (t : Token) {ts : List Token} {p r : ℕ → Reader A}
+  pub after_any : {A : Type 0} {n m : ℕ} {d : List Token → List Token} → n ≤ suc m → (t : Token) {ts : List Token} {p r : ℕ → Reader A}
       → Viable s x m Text b (λ js. d (t ∷ js)) p ts
       → ((us : List Token) (k : ℕ) → Good s k (t ∷ us) → r k (turned b k (t ∷ us)) ≡ p k (turned b k us)) → Viable s x n Text b d r (t ∷ ts)
   after_any le t {ts} v e = record {
@@ -443,8 +536,10 @@ module _ {s : Meant} {x : Token} {Text : ℕ → List Token → Type 0} {b : Inp
     here = y.here;
     deep = y.deep;
     opens = y.opens;
+    stays = y.stays;
     long = λ o. omega (arith, le, y.long o);
     same = λ us k n g. ap (λ r. and_then r (go k)) (y.same us k n g);
+    staying = y.staying;
     more = y.more;
     text = y.text;
     cause = y.cause;
@@ -516,18 +611,23 @@ module _ {s : Meant} {x : Token} {Text : ℕ → List Token → Type 0} {b : Inp
       by true e = alike_viable (y e) (λ us k n g. ap (way k us) (tells us k n ∙ e))
       by false e = alike_viable (z e) (λ us k n g. ap (way k us) (tells us k n ∙ e))
 
-  -- a test that a name does not pass
-  pub by_test_no_name : {A : Type 0} {n : ℕ} {d : List Token → List Token} {ts : List Token} (test : Input → Bool) {p q : ℕ → Reader A} → NextTells b test ts
-      → ((us : List Token) (k : ℕ) → test (turned b k (x ∷ us)) ≡ false) → (test (turned b 0 ts) ≡ true → Viable s x (suc n) Text b d p ts)
+  -- a test that no name passes, and a text goes on with what passes it
+  pub by_test_no_name : {A : Type 0} {n : ℕ} {d : List Token → List Token} {ts : List Token} (test : Input → Bool) (first : Token → Bool) {p q : ℕ → Reader A}
+      → ((us : List Token) (k : ℕ) → test (turned b k us) ≡ head_is first us) → first x ≡ false
+      → ((t : Token) → first t ≡ true → (over : ℕ) × ((us : List Token) × Are s us × Text over (d (t ∷ us))))
+      → (test (turned b 0 ts) ≡ true → Viable s x (suc n) Text b d p ts)
       → (test (turned b 0 ts) ≡ false → Viable s x n Text b d q ts) → Viable s x n Text b d (λ k i. if test i then p k i else q k i) ts
-  by_test_no_name {A} {n} {d} {ts} test {p} {q} tells name y z = by (test (turned b 0 ts)) refl
+  by_test_no_name {A} {n} {d} {ts} test first {p} {q} is no_name goes y z = by (test (turned b 0 ts)) refl
     where
       way : ℕ → List Token → Bool → Outcome A
       way k us c = if c then p k (turned b k us) else q k (turned b k us)
 
+      tells : (us : List Token) (k : ℕ) → SameNext ts us → test (turned b k us) ≡ test (turned b 0 ts)
+      tells us k n = is us k ∙ (same_first (head_is first) first (λ t js. refl) ts us n ∙ sym (is ts 0))
+
       by : (c : Bool) → test (turned b 0 ts) ≡ c → Viable s x n Text b d (λ k i. if test i then p k i else q k i) ts
       by true e = fewer (omega arith) (alike_viable (y e) (λ us k n g. ap (way k us) (tells us k n ∙ e)))
-      by false e = alike_or (z e) (λ us k n g. ap (way k us) (tells us k n ∙ e)) (λ us k g. ap (way k (x ∷ us)) (name us k))
+      by false e = narrowed first no_name (sym (is ts 0) ∙ e) goes (z e) (λ us k none. ap (way k us) (is us k ∙ none))
 
   pub by_option : {A V : Type 0} {n : ℕ} {d : List Token → List Token} {ts : List Token} (o : Input → Option V) {f : ℕ → V → Reader A} {e : ℕ → Reader A}
       → NextTells b o ts → ((v : V) → o (turned b 0 ts) ≡ Some v → Viable s x (suc n) Text b d (λ k. f k v) ts)
@@ -540,199 +640,3 @@ module _ {s : Meant} {x : Token} {Text : ℕ → List Token → Type 0} {b : Inp
       by : (v : Option V) → o (turned b 0 ts) ≡ v → Viable s x (suc n) Text b d (λ k i. option_map_or {U = Reader A} (f k) (o i) (e k) i) ts
       by None is = alike_viable (z is) (λ us k n g. ap (way k us) (tells us k n ∙ is))
       by (Some v) is = alike_viable (y v is) (λ us k n g. ap (way k us) (tells us k n ∙ is))
-
-  -- ---- tokens
-
-  -- the end of the tokens
-  pub breaks_at_end : {A : Type 0} {n : ℕ} {d : List Token → List Token} {r : ℕ → Reader A} (more : List Token) → Text 0 (d more)
-      → ((k : ℕ) → r k (turned b k []) ≡ Err (fault (code_of false) (turned b k []))) → Viable s x n Text b d r []
-  breaks_at_end {A} {n} {d} {r} more text e = breaks_here more text (λ us k n. at_end us k n)
-    where
-      at_end : (us : List Token) (k : ℕ) → SameNext [] us → r k (turned b k us) ≡ Err (fault (code_of false) (turned b k us))
-      at_end [] k n = e k
-      at_end (v ∷ us) k n = absurd n
-
-  -- the line of the next token
-  pub by_here : {A : Type 0} {n : ℕ} {d : List Token → List Token} {ts : List Token} (go : ℕ → ℕ → Reader A)
-      → Viable s x (suc n) Text b d (λ k. go k (line_at b.last ts)) ts → Viable s x (suc n) Text b d (λ k i. and_then (here i) (go k)) ts
-  unfolding line
-  by_here {ts = ts} go v =
-      alike_viable v (λ us k n g. ap (λ l. go k l (turned b k us)) (same_first (line_at b.last) (λ t. t.span.line) (λ t js. refl) ts us n))
-
-  -- a reader that reads so where this token comes next
-  pub by_first : {A : Type 0} {n : ℕ} {d : List Token → List Token} {t : Token} {ts : List Token} {p r : ℕ → Reader A}
-      → Viable s x (suc n) Text b d p (t ∷ ts)
-      → ((us : List Token) (k : ℕ) → r k (turned b k (t ∷ us)) ≡ p k (turned b k (t ∷ us))) → Viable s x (suc n) Text b d r (t ∷ ts)
-  by_first {A} {n} {d} {t} {ts} {p} {r} v e = alike_viable v (λ us k n g. by us k n)
-    where
-      by : (us : List Token) (k : ℕ) → SameNext (t ∷ ts) us → r k (turned b k us) ≡ p k (turned b k us)
-      by [] k n = absurd n
-      by (u ∷ us) k n = subst (λ (v : Token). r k (turned b k (v ∷ us)) ≡ p k (turned b k (v ∷ us))) n (e us k)
-
-  eat_any : {A : Type 0} {n m : ℕ} {d : List Token → List Token} → n ≤ m → (text : List ℕ) (t : Token) (ts : List Token) {p q : ℕ → Reader A}
-      → (is_sign text t ≡ true → Viable s x m Text b (λ js. d (t ∷ js)) p ts) → Viable s x (suc n) Text b d q (t ∷ ts)
-      → Viable s x (suc n) Text b d (λ k i. (if sees text i then p k else q k) (after text i)) (t ∷ ts)
-  unfolding sees after next
-  eat_any {A} {n} {m} {d} le text t ts {p} {q} y z = by (is_sign text t) refl
-    where
-      eaten : ℕ → Bool → Input → Input → Outcome A
-      eaten k c i j = (if c then p k else q k) (if c then i else j)
-
-      by : (c : Bool) → is_sign text t ≡ c → Viable s x (suc n) Text b d (λ k i. (if sees text i then p k else q k) (after text i)) (t ∷ ts)
-      by true e = after_any (omega (arith, le)) t (y e) (λ js k g. ap (λ c. eaten k c (turned b k js) (turned b k (t ∷ js))) e)
-      by false e = alike_viable z (λ js k n g. ap (λ c. eaten k c (turned b k (tail js)) (turned b k js)) (unpassed (is_sign text) t ts js e n))
-
-  -- after the sign stands something of a level below
-  pub by_eat_below : {A : Type 0} {n : ℕ} {d : List Token → List Token} (text : List ℕ) (t : Token) (ts : List Token) {p q : ℕ → Reader A}
-      → (is_sign text t ≡ true → Viable s x n Text b (λ js. d (t ∷ js)) p ts) → Viable s x (suc n) Text b d q (t ∷ ts)
-      → Viable s x (suc n) Text b d (λ k i. (if sees text i then p k else q k) (after text i)) (t ∷ ts)
-  by_eat_below text t ts y z = eat_any (omega arith) text t ts y z
-
-  pub by_eat_here : {A : Type 0} {n : ℕ} {d : List Token → List Token} (text : List ℕ) (t : Token) (ts : List Token) {p q : ℕ → Reader A}
-      → (is_sign text t ≡ true → Viable s x (suc n) Text b (λ js. d (t ∷ js)) p ts) → Viable s x (suc n) Text b d q (t ∷ ts)
-      → Viable s x (suc n) Text b d (λ k i. (if sees text i then p k else q k) (after text i)) (t ∷ ts)
-  by_eat_here text t ts y z = eat_any (omega arith) text t ts y z
-
-  eat_end : {A : Type 0} {n : ℕ} {d : List Token → List Token} (text : List ℕ) (p : ℕ → Reader A) {q : ℕ → Reader A} → Viable s x (suc n) Text b d q []
-      → Viable s x (suc n) Text b d (λ k i. (if sees text i then p k else q k) (after text i)) []
-  unfolding sees after
-  eat_end text p {q} z = alike_viable z (λ us k n g. at_end us k n)
-    where
-      at_end : (us : List Token) (k : ℕ) → SameNext [] us
-          → (if sees text (turned b k us) then p k else q k) (after text (turned b k us)) ≡ q k (turned b k us)
-      at_end [] k n = refl
-      at_end (v ∷ us) k n = absurd n
-
-  pub by_eat : {A : Type 0} {n : ℕ} {d : List Token → List Token} (text : List ℕ) (ts : List Token) {p q : ℕ → Reader A}
-      → ((u : Token) (us : List Token) → ts ≡ u ∷ us → is_sign text u ≡ true → Viable s x (suc n) Text b (λ js. d (u ∷ js)) p us)
-      → Viable s x (suc n) Text b d q ts → Viable s x (suc n) Text b d (λ k i. (if sees text i then p k else q k) (after text i)) ts
-  by_eat text [] {p} y z = eat_end text p z
-  by_eat text (u ∷ us) y z = by_eat_here text u us (λ e. y u us refl e) z
-
-  pub by_eat_then : {A : Type 0} {n : ℕ} {d : List Token → List Token} (text : List ℕ) (ts : List Token) {p q : ℕ → Reader A}
-      → ((u : Token) (us : List Token) → ts ≡ u ∷ us → is_sign text u ≡ true → Viable s x n Text b (λ js. d (u ∷ js)) p us)
-      → Viable s x (suc n) Text b d q ts → Viable s x (suc n) Text b d (λ k i. (if sees text i then p k else q k) (after text i)) ts
-  by_eat_then text [] {p} y z = eat_end text p z
-  by_eat_then text (u ∷ us) y z = by_eat_below text u us (λ e. y u us refl e) z
-
-  -- a sign that ends what a name would go on with
-  pub by_eat_no_name : {A : Type 0} {n : ℕ} {d : List Token → List Token} (text : List ℕ) (ts : List Token) {p q : ℕ → Reader A} → is_sign text x ≡ false
-      → ((u : Token) (us : List Token) → ts ≡ u ∷ us → is_sign text u ≡ true → Viable s x n Text b (λ js. d (u ∷ js)) p us)
-      → Viable s x n Text b d q ts → Viable s x n Text b d (λ k i. (if sees text i then p k else q k) (after text i)) ts
-  unfolding sees after next
-  by_eat_no_name {A} {n} {d} text ts {p} {q} name y z = by ts refl z
-    where
-      eaten : ℕ → Bool → Input → Input → Outcome A
-      eaten k c i j = (if c then p k else q k) (if c then i else j)
-
-      named : (us : List Token) (k : ℕ) → (if sees text (turned b k (x ∷ us)) then p k else q k) (after text (turned b k (x ∷ us))) ≡ q k (turned b k (x ∷ us))
-      named us k = ap (λ c. eaten k c (turned b k us) (turned b k (x ∷ us))) name
-
-      at_end : (us : List Token) (k : ℕ) → SameNext [] us
-          → (if sees text (turned b k us) then p k else q k) (after text (turned b k us)) ≡ q k (turned b k us)
-      at_end [] k n = refl
-      at_end (v ∷ us) k n = absurd n
-
-      first : (u : Token) (us : List Token) → ts ≡ u ∷ us → Viable s x n Text b d q (u ∷ us) → (c : Bool) → is_sign text u ≡ c
-          → Viable s x n Text b d (λ k i. (if sees text i then p k else q k) (after text i)) (u ∷ us)
-      first u us is z true e = after_any (omega arith) u (y u us is e) (λ js k g. ap (λ c. eaten k c (turned b k js) (turned b k (u ∷ js))) e)
-      first u us is z false e =
-          alike_or z (λ js k n g. ap (λ c. eaten k c (turned b k (tail js)) (turned b k js)) (unpassed (is_sign text) u us js e n)) (λ js k g. named js k)
-
-      by : (vs : List Token) → ts ≡ vs → Viable s x n Text b d q vs → Viable s x n Text b d (λ k i. (if sees text i then p k else q k) (after text i)) vs
-      by [] is z = alike_or z (λ us k n g. at_end us k n) (λ js k g. named js k)
-      by (u ∷ us) is z = first u us is z (is_sign text u) refl
-
-  passed_any : {A : Type 0} {n m : ℕ} {d : List Token → List Token} → n ≤ suc m → (test : Token → Bool) (t : Token) (ts : List Token)
-      (go : ℕ → Unit {0} → Reader A) (more : List Token) → Text 0 (d more) → (test t ≡ true → Viable s x m Text b (λ js. d (t ∷ js)) (λ k. go k tt) ts)
-      → Viable s x n Text b d (λ k i. and_then (passed (head_is test i.rest) i) (go k)) (t ∷ ts)
-  unfolding next
-  passed_any {A} {n} {m} {d} le test t ts go more text y = by (test t) refl
-    where
-      by : (c : Bool) → test t ≡ c → Viable s x n Text b d (λ k i. and_then (passed (head_is test i.rest) i) (go k)) (t ∷ ts)
-      by true e = after_any le t (y e) (λ js k g. ap (λ c. and_then (passed c (turned b k (t ∷ js))) (go k)) e)
-      by false e = breaks_here more text (λ js k n. ap (λ c. and_then (passed c (turned b k js)) (go k)) (unpassed test t ts js e n))
-
-  pub by_passed : {A : Type 0} {n : ℕ} {d : List Token → List Token} (test : Token → Bool) (ts : List Token) (go : ℕ → Unit {0} → Reader A)
-      (more : List Token) → Text 0 (d more)
-      → ((u : Token) (us : List Token) → ts ≡ u ∷ us → test u ≡ true → Viable s x n Text b (λ js. d (u ∷ js)) (λ k. go k tt) us)
-      → Viable s x n Text b d (λ k i. and_then (passed (head_is test i.rest) i) (go k)) ts
-  by_passed test [] go more text y = breaks_at_end more text (λ k. refl)
-  by_passed test (u ∷ us) go more text y = passed_any (omega arith) test u us go more text (λ e. y u us refl e)
-
-  consumed_here : {A : Type 0} {n : ℕ} {d : List Token → List Token} (test : Token → Bool) (t : Token) (ts : List Token) (go : ℕ → List ℕ → Reader A)
-      (more : List Token) → Text 0 (d more) → (test t ≡ true → Viable s x n Text b (λ js. d (t ∷ js)) (λ k. go k t.text) ts)
-      → Viable s x n Text b d (λ k i. and_then (consumed (head_is test i.rest) i) (go k)) (t ∷ ts)
-  unfolding next spelling
-  consumed_here {A} {n} {d} test t ts go more text y = by (test t) refl
-    where
-      by : (c : Bool) → test t ≡ c → Viable s x n Text b d (λ k i. and_then (consumed (head_is test i.rest) i) (go k)) (t ∷ ts)
-      by true e = after_any (omega arith) t (y e) (λ js k g. ap (λ c. and_then (consumed c (turned b k (t ∷ js))) (go k)) e)
-      by false e = breaks_here more text (λ js k n. ap (λ c. and_then (consumed c (turned b k js)) (go k)) (unpassed test t ts js e n))
-
-  pub by_consumed : {A : Type 0} {n : ℕ} {d : List Token → List Token} (test : Token → Bool) (ts : List Token) (go : ℕ → List ℕ → Reader A)
-      (more : List Token) → Text 0 (d more)
-      → ((u : Token) (us : List Token) → ts ≡ u ∷ us → test u ≡ true → Viable s x n Text b (λ js. d (u ∷ js)) (λ k. go k u.text) us)
-      → Viable s x n Text b d (λ k i. and_then (consumed (head_is test i.rest) i) (go k)) ts
-  by_consumed test [] go more text y = breaks_at_end more text (λ k. refl)
-  by_consumed test (u ∷ us) go more text y = consumed_here test u us go more text (λ e. y u us refl e)
-
-  pub by_expect : {A : Type 0} {n : ℕ} {d : List Token → List Token} (text : List ℕ) (ts : List Token) (go : ℕ → Unit {0} → Reader A)
-      (more : List Token) → Text 0 (d more)
-      → ((u : Token) (us : List Token) → ts ≡ u ∷ us → is_sign text u ≡ true → Viable s x n Text b (λ js. d (u ∷ js)) (λ k. go k tt) us)
-      → Viable s x n Text b d (λ k i. and_then (expect text i) (go k)) ts
-  unfolding expect sees
-  by_expect text ts go more t y = by_passed (is_sign text) ts go more t y
-
-  -- after the sign stands something of a level below
-  pub by_expect_then : {A : Type 0} {n : ℕ} {d : List Token → List Token} (text : List ℕ) (ts : List Token) (go : ℕ → Unit {0} → Reader A)
-      (more : List Token) → Text 0 (d more)
-      → ((u : Token) (us : List Token) → ts ≡ u ∷ us → is_sign text u ≡ true → Viable s x n Text b (λ js. d (u ∷ js)) (λ k. go k tt) us)
-      → Viable s x (suc n) Text b d (λ k i. and_then (expect text i) (go k)) ts
-  unfolding expect sees
-  by_expect_then text [] go more t y = breaks_at_end more t (λ k. refl)
-  by_expect_then text (u ∷ us) go more t y = passed_any (omega arith) (is_sign text) u us go more t (λ e. y u us refl e)
-
-  pub by_word : {A : Type 0} {n : ℕ} {d : List Token → List Token} (text : List ℕ) (ts : List Token) (go : ℕ → Unit {0} → Reader A)
-      (more : List Token) → Text 0 (d more)
-      → ((u : Token) (us : List Token) → ts ≡ u ∷ us → is_word text u ≡ true → Viable s x n Text b (λ js. d (u ∷ js)) (λ k. go k tt) us)
-      → Viable s x n Text b d (λ k i. and_then (expect_word text i) (go k)) ts
-  unfolding expect_word sees_word
-  by_word text ts go more t y = by_passed (is_word text) ts go more t y
-
-  pub by_word_here : {A : Type 0} {n : ℕ} {d : List Token → List Token} (text : List ℕ) (t : Token) (ts : List Token) (go : ℕ → Unit {0} → Reader A)
-      (more : List Token) → Text 0 (d more) → (is_word text t ≡ true → Viable s x n Text b (λ js. d (t ∷ js)) (λ k. go k tt) ts)
-      → Viable s x n Text b d (λ k i. and_then (expect_word text i) (go k)) (t ∷ ts)
-  unfolding expect_word sees_word
-  by_word_here text t ts go more y z = passed_any (omega arith) (is_word text) t ts go more y z
-
-  pub by_name : {A : Type 0} {n : ℕ} {d : List Token → List Token} (ts : List Token) (go : ℕ → List ℕ → Reader A) (more : List Token) → Text 0 (d more)
-      → ((u : Token) (us : List Token) → ts ≡ u ∷ us → is_name u ≡ true → Viable s x n Text b (λ js. d (u ∷ js)) (λ k. go k u.text) us)
-      → Viable s x n Text b d (λ k i. and_then (a_name i) (go k)) ts
-  unfolding a_name sees_name
-  by_name ts go more t y = by_consumed is_name ts go more t y
-
-  -- The types of the input are those of `b`, whatever is left.
-  pub by_variable : {A : Type 0} {n : ℕ} {d : List Token → List Token} (ts : List Token) (go : ℕ → List ℕ → Reader A) (more : List Token) → Text 0 (d more)
-      → ((u : Token) (us : List Token) → ts ≡ u ∷ us → is_variable b.types u ≡ true → Viable s x n Text b (λ js. d (u ∷ js)) (λ k. go k u.text) us)
-      → Viable s x n Text b d (λ k i. and_then (a_variable i) (go k)) ts
-  unfolding a_variable sees_variable
-  by_variable ts go more t y =
-      alike_all {p = λ k i. and_then (consumed (head_is (is_variable b.types) i.rest) i) (go k)} (by_consumed (is_variable b.types) ts _ more t y)
-      (λ us k g. refl)
-
-  pub by_variable_here : {A : Type 0} {n : ℕ} {d : List Token → List Token} (t : Token) (ts : List Token) (go : ℕ → List ℕ → Reader A)
-      (more : List Token) → Text 0 (d more) → (is_variable b.types t ≡ true → Viable s x n Text b (λ js. d (t ∷ js)) (λ k. go k t.text) ts)
-      → Viable s x n Text b d (λ k i. and_then (a_variable i) (go k)) (t ∷ ts)
-  unfolding a_variable sees_variable
-  by_variable_here t ts go more y z =
-      alike_all {p = λ k i. and_then (consumed (head_is (is_variable b.types) i.rest) i) (go k)} (consumed_here (is_variable b.types) t ts _ more y z)
-      (λ us k g. refl)
-
-  pub by_type_word : {A : Type 0} {n : ℕ} {d : List Token → List Token} (ts : List Token) (go : ℕ → List ℕ → Reader A) (more : List Token) → Text 0 (d more)
-      → ((u : Token) (us : List Token) → ts ≡ u ∷ us → is_type b.types u ≡ true → Viable s x n Text b (λ js. d (u ∷ js)) (λ k. go k u.text) us)
-      → Viable s x n Text b d (λ k i. and_then (a_type_word i) (go k)) ts
-  unfolding sees_type
-  by_type_word ts go more t y =
-      alike_all {p = λ k i. and_then (consumed (head_is (is_type b.types) i.rest) i) (go k)} (by_consumed (is_type b.types) ts _ more t y)
-      (λ us k g. refl)

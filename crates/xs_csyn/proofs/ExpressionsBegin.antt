@@ -1,63 +1,40 @@
 -- Where reading an expression breaks off, the tokens that were passed begin one.
-use Rattle.std.proofs.Common.{◌≡◌, ℕ, zero, suc, ◌+◌, ◌<◌, ◌≤◌, ◌&&◌, ◌==◌, Bool, true, false, if◌then◌else◌, nat_lt, List, [], ◌∷◌, ◌++◌, length, Option, Some, None, Ok, Err, refl, ap, sym, ◌∙◌, arith}
+use Rattle.std.proofs.Common.{◌≡◌, ℕ, zero, suc, ◌+◌, ◌<◌, ◌≤◌, ◌&&◌, Bool, true, false, if◌then◌else◌, nat_lt, List, [], ◌∷◌, ◌++◌, length, Option, Some, None, Ok, Err, refl, ap, ◌∙◌, arith}
 use Rattle.std.proofs.lemmas.Bool.{and_parts, ltb-false}
 use Rattle.std.proofs.lemmas.Slice.Eq.{bytes_eq-Decides}
 use Rattle.std.specs.Option.{option_map_or}
 use Rattle.std.specs.Prelude.{codes}
 use Rattle.std.specs.Str.{bytes_eq}
-use Rattle.xs_base.specs.Readers.{◌>>=◌, and_then, pure, tail}
-use Rattle.xs_ctok.specs.declared.token.TokKind.TheVariants as kind
+use Rattle.xs_base.specs.Readers.{◌>>=◌, and_then, head_is, pure}
 use Rattle.xs_ctok.specs.declared.token.Token.{Token}
-use Rattle.xs_csyn.proofs.Breaks.{Viable, after_deeper, after_token, alike_all, alike_viable, breaks_at_end, breaks_here, by_bool, by_eat, by_eat_below, by_eat_here, by_eat_no_name, by_eat_then, by_expect, by_expect_then, by_first, by_here, by_name, by_option, by_test, by_test_no_name, by_type_word, by_variable, by_variable_here, finished, less_of, onward, operand_here, read, sign_here, step, step_below}
+use Rattle.xs_csyn.proofs.Breaks.{Viable, after_deeper, after_token, alike_all, alike_viable, by_option, by_test, by_test_no_name, finished, less_of, onward, operand_here, read, sign_here, step, step_below}
+use Rattle.xs_csyn.proofs.TokenBreaks.{breaks_at_end, by_eat, by_eat_below, by_eat_here, by_eat_no_name, by_eat_then, by_expect, by_expect_then, by_first, by_here, by_name, by_variable, by_variable_here}
 use Rattle.xs_csyn.proofs.ExpressionsLocal.{expr_local, literal_tells, primary_local}
-use Rattle.xs_csyn.proofs.ExpressionsSound.{Stands, Stood, at_least_none, at_least_some, expr_yields, place_in_choice, place_in_operand, binary_line, placed_line, placed_tall, primary_line, primary_yields, type_name_yields, type_yields, unary_line}
-use Rattle.xs_csyn.proofs.Frames.{binary_frame, choice_frame, primary_frame, type_frame, type_name_frame, type_rest_frame, unary_frame, whole_frame}
+use Rattle.xs_csyn.proofs.ExpressionsSound.{Stands, Stood, at_least_none, at_least_some, expr_yields, place_in_choice, place_in_operand, binary_line, placed_line, placed_tall, primary_line, primary_yields, type_yields, unary_line}
+use Rattle.xs_csyn.proofs.Frames.{binary_frame, choice_frame, primary_frame, type_frame, unary_frame, whole_frame}
 use Rattle.xs_csyn.proofs.HoleHeights.{found_low, hole_none, hole_place, place_low, stood_low}
-use Rattle.xs_csyn.proofs.Local.{Are, Local, Meant, NextTells, any, are_more, assignment_tells, operator_tells, prefix_tells, proper, sees_tells, step_tells, turned, type_tells, word_tells}
-use Rattle.xs_csyn.proofs.Marks.{name_no_mark, variable_name, variable_no_type}
-use Rattle.xs_csyn.proofs.MoreTurns.{list_same, stars_same}
+use Rattle.xs_csyn.proofs.Local.{Are, Local, Meant, NextTells, are_more, assignment_tells, operator_tells, prefix_tells, sees_tells, step_tells, turned, word_tells}
+use Rattle.xs_csyn.proofs.Marks.{mark_no_name, name_no_mark, row_no_name, variable_name, variable_no_type}
+use Rattle.xs_csyn.proofs.MoreTurns.{list_same}
 use Rattle.xs_csyn.proofs.Sizes.{whole_shrinks}
-use Rattle.xs_csyn.proofs.TypesLocal.{join_tells, type_after, type_after_local, type_first, type_local, type_name_first, type_name_local, type_then}
+use Rattle.xs_csyn.proofs.TypesLocal.{type_local}
 use Rattle.xs_csyn.proofs.Yields.{Yields, at}
 use Rattle.xs_cexpr.specs.ExpressionReader.{Found, FoundAll, FoundPlace, above, above_place, address, after_name, arguments, assign, binary, by_place, cast, choice, choose, climb, dereferenced, expr, flat, index, int2ptr, joined, last_suffix, list, list_from, literal, named, named_place, no_nodes, opened, operand, other_choice, place, place_height as height_as, place_of, place_tree_of, placed, placed_as, pointed, prefixed, primary, st_place, stepped, suffixes, unary, whole, with_node, worded}
-use Rattle.xs_csyn.specs.FaultPlaces.{SameNext}
-use Rattle.xs_csyn.specs.TokenTexts.{IsSpelt, is_wordlike}
 use Rattle.xs_csyn.specs.Prefixes.{height_but, heights_but, place_height_but}
 use Rattle.xs_cexpr.specs.ExpressionHeights.{height, place_height}
 use Rattle.xs_csyn.specs.Grammar as g
-use Rattle.xs_csyn.specs.Grammar.{AType, Binary, Choice, Is, IsVariable, IsWord, Listed, Operand, Place, Primary, TypeName, Unary, Whole, line_of}
-use Rattle.xs_cinput.specs.Operators.{a_step, assignment, at_least, binary_ops, first_in, operator, prefix_op, prefix_ops, sign_in, steps}
+use Rattle.xs_csyn.specs.Grammar.{Binary, Choice, Is, IsVariable, IsWord, Listed, Operand, Place, Primary, Unary, Whole, line_of}
+use Rattle.xs_cinput.specs.Operators.{a_step, assignment, assignments, at_least, binary_ops, first_in, operator, prefix_op, prefix_ops, sign_in, steps}
 use Rattle.xs_cexpr.specs.ExpressionTree as tree
 use Rattle.xs_cexpr.specs.ExpressionTree.{ExprTree, ExprTrees, PlaceTree}
-use Rattle.xs_cinput.specs.TokenInput.{Input, Outcome, Reader, a_variable, after, expect, is_sign, is_type, line, line_at, next, refuse, sees, sees_type, sees_variable, sees_word, skip, spelling, text_at, too_deep}
-use Rattle.xs_cinput.specs.TypeReader.{a_type, join_table, joined_name, joins, sees_join, stars, stars_from, type_name}
-use Rattle.xs_ctok.specs.CWords.{is_type_word}
+use Rattle.xs_cinput.specs.TokenInput.{Input, Outcome, Reader, a_variable, after, expect, is_name, is_sign, is_type, line, line_at, next, sees, sees_type, sees_variable, sees_word, skip, too_deep}
+use Rattle.xs_cinput.specs.TypeReader.{joins}
 use Rattle.xs_cexpr.specs.declared.node.Level.{Level}
 use Rattle.xs_cexpr.specs.declared.node.Level.TheVariants as level
 use Rattle.xs_cinput.specs.declared.tree.BinaryOp.{BinaryOp}
-use Rattle.xs_cinput.specs.declared.tree.CType.{CType}
 use Rattle.xs_cinput.specs.declared.tree.Step.{Step}
 use Rattle.xs_values.specs.declared.unary_operator.UnOp.{UnOp}
-
--- ---- tokens that complete
-
--- a punctuator, and a word, beside a token
-abbrev pub sign : Token → List ℕ → Token
-sign x text = record x { kind = kind.Punct; text = text }
-
-abbrev pub word : Token → List ℕ → Token
-word x text = record x { kind = kind.Word; text = text }
-
--- they are spelt as such are
-pub sign_spelt : (x : Token) (text : List ℕ) → is_wordlike text ≡ false → IsSpelt (sign x text)
-sign_spelt x text e = ((λ h. absurd cc), (λ h. e))
-
-pub word_spelt : (x : Token) (text : List ℕ) → is_wordlike text ≡ true → IsSpelt (word x text)
-word_spelt x text e = ((λ h. e), (λ h. absurd cc))
-
-with_sign : (s : Meant) (x : Token) (text : List ℕ) → is_wordlike text ≡ false → (us : List Token) → Are s us → Are s (sign x text ∷ us)
-with_sign any x text e us a = tt
-with_sign proper x text e us a = (sign_spelt x text e, a)
+use Rattle.xs_csyn.proofs.TypesBegin.{char_joins, int_type, sign, type_begins, with_sign, with_word, word}
 
 pub as_primary : {types : List (List ℕ)} {a : ExprTree} {ts us : List Token} → Primary types a ts us → Whole types a ts us
 as_primary x = g.is_choice (g.is_binary (g.is_unary (g.is_operand (g.is_primary x))))
@@ -98,157 +75,12 @@ nested (Ok p) f made go = by (f p.0 p.1)
     by (Err e) = refl
 nested (Err e) f made go = refl
 
--- ---- types
-
-pub int_is : (types : List (List ℕ)) (x : Token) → is_type types (word x (codes "int")) ≡ true
-unfolding is_type_word
-int_is types x = refl
-
-char_joins : (x : Token) → joins (codes "signed") (word x (codes "char")) ≡ true
-unfolding join_table
-char_joins x = refl
-
-abbrev has_blank : List ℕ → Bool
-has_blank [] = false
-has_blank (c ∷ cs) = if c == 32 then true else has_blank cs
-
-blank_in : (xs ys : List ℕ) → has_blank (xs ++ 32 ∷ ys) ≡ true
-blank_in [] ys = refl
-blank_in (c ∷ xs) ys = by (c == 32) (blank_in xs ys)
-  where
-    by : (e : Bool) → has_blank (xs ++ 32 ∷ ys) ≡ true → (if e then true else has_blank (xs ++ 32 ∷ ys)) ≡ true
-    by true h = refl
-    by false h = h
-
--- two words are not one
-not_signed : (xs ys : List ℕ) → bytes_eq (xs ++ 32 ∷ ys) (codes "signed") ≡ true → ⊥
-not_signed xs ys e =
-    let same : xs ++ 32 ∷ ys ≡ codes "signed" = (bytes_eq-Decides (xs ++ 32 ∷ ys) (codes "signed")).0 e in
-    let wrong : has_blank (codes "signed") ≡ true = ap has_blank (sym same) ∙ blank_in xs ys in
-    absurd cc
-
-type_of_name : {types : List (List ℕ)} {name : List ℕ} {ts us : List Token} → TypeName types name ts us → (to : CType) × AType types to ts us
-type_of_name (g.type_name (g.one_word i) isnt) = (_, g.a_type (g.type_name (g.one_word i) isnt) g.no_star)
-type_of_name (g.type_name (g.two_words i j) isnt) = (_, g.a_type (g.type_name (g.two_words i j) isnt) g.no_star)
-type_of_name (g.type_name (g.three_words i j k) isnt) = (_, g.a_type (g.type_name (g.three_words i j k) isnt) g.no_star)
-
--- `int` is a type
-pub int_type : (types : List (List ℕ)) (x : Token) (us : List Token)
-    → AType types (record { line = x.span.line; name = codes "int"; stars = 0 }) (word x (codes "int") ∷ us) us
-int_type types x us = g.a_type (g.type_name (g.one_word (int_is types x)) refl) g.no_star
-
--- a word that goes on with the name of a type is taken
-by_join : {s : Meant} {A : Type 0} {x : Token} {m : ℕ} {Text : ℕ → List Token → Type 0} {b : Input} {d : List Token → List Token} (name : List ℕ)
-    (ts : List Token)
-    (go : ℕ → List ℕ → Reader A)
-    → ((u : Token) (us : List Token) → joins name u ≡ true → Viable s x (suc m) Text b (λ js. d (u ∷ js)) (λ k. go k (name ++ 32 ∷ u.text)) us)
-    → Viable s x (suc m) Text b d (λ k. go k name) ts → Viable s x (suc m) Text b d (λ k i. and_then (joined_name name i) (go k)) ts
-unfolding joined_name sees_join next spelling
-by_join {s} {A} {x} {m} {Text} {b} {d} name [] go h v = alike_viable v (λ us k n g. at_end us k n)
-  where
-    at_end : (us : List Token) (k : ℕ) → SameNext [] us → and_then (joined_name name (turned b k us)) (go k) ≡ go k name (turned b k us)
-    at_end [] k n = refl
-    at_end (t ∷ us) k n = absurd n
-by_join {s} {A} {x} {m} {Text} {b} {d} name (u ∷ us) go h v = by (joins name u) refl
-  where
-    taken : ℕ → Bool → List ℕ → Input → Input → Outcome A
-    taken k c more i j = and_then (if c then Ok (more, i) else Ok (name, j)) (go k)
-
-    by : (c : Bool) → joins name u ≡ c → Viable s x (suc m) Text b d (λ k i. and_then (joined_name name i) (go k)) (u ∷ us)
-    by true e = after_token u (h u us e) (λ js k n g. ap (λ c. taken k c (name ++ 32 ∷ u.text) (turned b k js) (turned b k (u ∷ js))) e)
-    by false e =
-        alike_viable v (λ js k n g. ap (λ c. taken k c (name ++ 32 ∷ text_at js) (turned b k (tail js)) (turned b k js))
-        (join_tells b name (u ∷ us) js k n ∙ e))
-
--- the end of a type's name
-type_end : {s : Meant} {x : Token} {m : ℕ} {Text : ℕ → List Token → Type 0} {b : Input} {d : List Token → List Token} (name : List ℕ) (us : List Token)
-    → (bytes_eq name (codes "signed") ≡ true → (more : List Token) × Text 0 (d more))
-    → Viable s x (suc m) Text b d (λ k. if bytes_eq name (codes "signed") then refuse else pure name) us
-type_end name us more =
-    by_bool (bytes_eq name (codes "signed")) (λ e. let c = more e in breaks_here c.0 c.1 (λ us k n. refl)) (λ isnt. read refl)
-
--- stars end before their turns do
-stars_from_viable : {s : Meant} {x : Token} {m : ℕ} {Text : ℕ → List Token → Type 0} {b : Input} {d : List Token → List Token} (n c : ℕ) (ts : List Token)
-    → length ts < n
-    → Viable s x (suc m) Text b d (λ k. stars_from k c) ts
-unfolding stars_from
-stars_from_viable zero c ts few = absurd (omega (arith, few))
-stars_from_viable {s} {x} {m} {Text} {b} {d} (suc n) c ts few =
-    alike_viable {p = λ k. stars_from (suc k) c}
-    (by_eat (codes "*") ts (λ u us less is. stars_from_viable n (c + 1) us (omega (arith, few, less_of less))) (read refl))
-    (λ us k e g. stars_same (turned b k us) k (suc k) c us g.0 (omega (arith, g.0)))
-
-pub stars_viable : {s : Meant} {x : Token} {m : ℕ} {Text : ℕ → List Token → Type 0} {b : Input} {d : List Token → List Token} (ts : List Token)
-    → Viable s x (suc m) Text b d (λ k. stars) ts
-unfolding stars
-stars_viable ts = alike_viable {p = λ k. stars_from k 0} (stars_from_viable (suc (length ts)) 0 ts (omega arith)) (λ us k e g. refl)
-
--- a type on this line
-abbrev type_on : ℕ → Reader CType
-type_on line = do
-  name ← type_name
-  n ← stars
-  pure (record { line = line; name = name; stars = n })
-
--- what is read after the first word
-pub type_after_yields : (b : Input) (t : Token) → is_type b.types t ≡ true → (ts : List Token)
-    → Yields b (type_after t.text (at b ts)) (λ n us. TypeName b.types n (t ∷ ts) us)
-type_after_yields b t is ts = record { gives = λ a k e. (type_name_yields b (t ∷ ts)).gives a k (type_name_first b t ts b.turns is ∙ e) }
-
-pub type_then_yields : (b : Input) (t : Token) → is_type b.types t ≡ true → (ts : List Token)
-    → Yields b (type_then t.span.line t.text (at b ts)) (λ to us. AType b.types to (t ∷ ts) us)
-type_then_yields b t is ts = record { gives = λ a k e. (type_yields b (t ∷ ts)).gives a k (type_first b t ts b.turns is ∙ e) }
-
-module _ {s : Meant} (Text : ℕ → List Token → Type 0) (b : Input) (x : Token) where
-  -- after the first word
-  pub type_after_begins : {m : ℕ} (t : Token) → is_type b.types t ≡ true → (d : List Token → List Token) (us : List Token)
-      → ((name : List ℕ) (ws : List Token) → TypeName b.types name ws us → Text 0 (d ws))
-      → (ts : List Token) → Viable s x (suc m) Text b (λ js. d (t ∷ js)) (λ k. type_after t.text) ts
-  type_after_begins t is d us fin ts =
-      by_join t.text ts _
-      (λ u ls j. by_join (t.text ++ 32 ∷ u.text) ls _
-      (λ v ms j'. type_end ((t.text ++ 32 ∷ u.text) ++ 32 ∷ v.text) ms (λ e. absurd (not_signed (t.text ++ 32 ∷ u.text) v.text e)))
-      (type_end (t.text ++ 32 ∷ u.text) ls (λ e. absurd (not_signed t.text u.text e))))
-      (by_join t.text ts _ (λ u ls j. type_end (t.text ++ 32 ∷ u.text) ls (λ e. absurd (not_signed t.text u.text e))) (type_end t.text ts signed))
-    where
-      signed : bytes_eq t.text (codes "signed") ≡ true → (more : List Token) × Text 0 (d (t ∷ more))
-      signed e =
-          let same : t.text ≡ codes "signed" = (bytes_eq-Decides t.text (codes "signed")).0 e in
-          let joined : joins t.text (word x (codes "char")) ≡ true = rw same (char_joins x) in
-          let isnt : bytes_eq (t.text ++ 32 ∷ codes "char") (codes "signed") ≡ false = rw same refl in
-          (word x (codes "char") ∷ us, fin _ (t ∷ word x (codes "char") ∷ us) (g.type_name (g.two_words is joined) isnt))
-
-  pub type_name_begins : {m : ℕ} (d : List Token → List Token) (us : List Token)
-      → ((name : List ℕ) (ws : List Token) → TypeName b.types name ws us → Text 0 (d ws))
-      → (ts : List Token) → Viable s x (suc m) Text b d (λ k. type_name) ts
-  unfolding type_name
-  type_name_begins d us fin ts =
-      by_type_word ts _ (word x (codes "int") ∷ us) (fin _ (word x (codes "int") ∷ us) (g.type_name (g.one_word (int_is b.types x)) refl))
-      (λ t ks less is. type_after_begins t is d us fin ks)
-
-  pub type_begins : {m : ℕ} (d : List Token → List Token) (us : List Token) → ((to : CType) (ws : List Token) → AType b.types to ws us → Text 0 (d ws))
-      → (ts : List Token) → Viable s x (suc m) Text b d (λ k. a_type) ts
-  unfolding a_type
-  type_begins d us fin ts =
-      by_here (λ k. type_on) (step (type_name_local b ts) (type_name_yields b ts)
-      (type_name_begins d us (λ name ws q. let to = type_of_name q in fin to.0 ws to.1) ts)
-      (λ name ks q. onward (type_name_frame q) (finished _ (stars_viable ks))))
-
-  -- a type after its first word
-  pub type_then_begins : {m : ℕ} (t : Token) → is_type b.types t ≡ true → (d : List Token → List Token) (us : List Token)
-      → ((to : CType) (ws : List Token) → AType b.types to ws us → Text 0 (d ws))
-      → (ts : List Token) → Viable s x (suc m) Text b (λ js. d (t ∷ js)) (λ k. type_then t.span.line t.text) ts
-  type_then_begins t is d us fin ts =
-      step (type_after_local b t.text ts) (type_after_yields b t is ts)
-      (type_after_begins t is d us (λ name ws q. let to = type_of_name q in fin to.0 ws to.1) ts)
-      (λ name ks q. onward (type_rest_frame q) (finished _ (stars_viable ks)))
-
 -- ---- expressions
 
--- a variable begins no type
-name_no_type : (b : Input) (x : Token) → IsVariable b.types x → (us : List Token) (k : ℕ) → sees_type (turned b k (x ∷ us)) ≡ false
+-- whether the next token begins a type
+type_seen : (b : Input) (us : List Token) (k : ℕ) → sees_type (turned b k us) ≡ head_is (is_type b.types) us
 unfolding sees_type
-name_no_type b x v us k = variable_no_type b.types x v
+type_seen b us k = refl
 
 -- A place is no higher than what it is read as, or flat.
 place_within : (left : Found) (p : PlaceTree) → place_tree_of left.tree ≡ Some p → left.height ≡ height left.tree → {n : ℕ} → left.height ≤ suc n
@@ -309,7 +141,8 @@ module _ {s : Meant} (Text : ℕ → List Token → Type 0) (b : Input) (x : Tok
       → (ts : List Token) → Viable s x m Text b d (λ k. arguments (expr m)) ts
   unfolding arguments
   arguments_begin d us su fin ts =
-      by_eat_no_name (codes ")") ts (name_no_mark (codes ")") x (variable_name b.types x vx)) (λ u ks less is. read refl)
+      by_eat_no_name (codes ")") ts (name_no_mark (codes ")") x (variable_name b.types x vx))
+      (λ t is. (0, (us, su, fin 0 tree.NoExprs (t ∷ us) (g.none is) (omega arith)))) (λ u ks less is. read refl)
       (all_listed_begin d us su (λ over args ws q h. fin over args ws (g.some q) h) ts)
 
   -- after the name
@@ -469,23 +302,23 @@ choice_reads b m ts = expr_yields b (suc m) level.Choice ts
 
 -- What this token goes on with is too deep, or else is read on.
 by_room : {s : Meant} {A : Type 0} {x : Token} {k : ℕ} {Text : ℕ → List Token → Type 0} {b : Input} {d : List Token → List Token} {t : Token} {ts : List Token}
-    (m n : ℕ) {go : ℕ → Reader A} (more : List Token) → Text 0 (d more) → (us : List Token) → Are s us → Text 2 (d (t ∷ us))
+    (m n : ℕ) {go : ℕ → Reader A} → is_name t ≡ false → (more : List Token) → Text 0 (d more) → (us : List Token) → Are s us → Text 2 (d (t ∷ us))
     → (n ≤ m → Viable s x k Text b d go (t ∷ ts)) → Viable s x k Text b d (λ j. if nat_lt m n then too_deep else go j) (t ∷ ts)
-by_room {s} {A} {x} {k} {Text} {b} {d} {t} {ts} m n {go} more text us are goes v = by (nat_lt m n) refl
+by_room {s} {A} {x} {k} {Text} {b} {d} {t} {ts} m n {go} nameless more text us are goes v = by (nat_lt m n) refl
   where
     by : (c : Bool) → nat_lt m n ≡ c → Viable s x k Text b d (λ j. if c then too_deep else go j) (t ∷ ts)
-    by true e = sign_here t more text 2 us are goes (λ js j n. refl)
+    by true e = sign_here t nameless more text 2 us are goes (λ js j n. refl)
     by false e = v (ltb-false m n e)
 
 room_then : {s : Meant} {A B : Type 0} {x : Token} {k : ℕ} {Text : ℕ → List Token → Type 0} {b : Input} {d : List Token → List Token} {t : Token}
-    {ts : List Token} (m n : ℕ) (go : ℕ → Reader A) (h : ℕ → A → Reader B) (more : List Token) → Text 0 (d more) → (us : List Token) → Are s us → Text 2
-    (d (t ∷ us))
+    {ts : List Token} (m n : ℕ) (go : ℕ → Reader A) (h : ℕ → A → Reader B) → is_name t ≡ false → (more : List Token) → Text 0 (d more) → (us : List Token)
+    → Are s us → Text 2 (d (t ∷ us))
     → (n ≤ m → Viable s x k Text b d (λ j i. and_then (go j i) (h j)) (t ∷ ts))
     → Viable s x k Text b d (λ j i. and_then ((if nat_lt m n then too_deep else go j) i) (h j)) (t ∷ ts)
-room_then {s} {A} {B} {x} {k} {Text} {b} {d} {t} {ts} m n go h more text us are goes v = by (nat_lt m n) refl
+room_then {s} {A} {B} {x} {k} {Text} {b} {d} {t} {ts} m n go h nameless more text us are goes v = by (nat_lt m n) refl
   where
     by : (c : Bool) → nat_lt m n ≡ c → Viable s x k Text b d (λ j i. and_then ((if c then too_deep else go j) i) (h j)) (t ∷ ts)
-    by true e = sign_here t more text 2 us are goes (λ js j n. refl)
+    by true e = sign_here t nameless more text 2 us are goes (λ js j n. refl)
     by false e = v (ltb-false m n e)
 
 module _ {s : Meant} (Text : ℕ → List Token → Type 0) (b : Input) (x : Token) (vx : IsVariable b.types x) (ax : Are s (x ∷ [])) (m : ℕ) (H : Inner s Text b x m)
@@ -526,17 +359,19 @@ module _ {s : Meant} (Text : ℕ → List Token → Type 0) (b : Input) (x : Tok
   suffixes_begin zero line left lw L d us su fin [] e tall within = read refl
   suffixes_begin zero line left lw L d us su fin (u ∷ ks) e tall within =
       by_test (sees (codes "[")) (sees_tells b (codes "[") (u ∷ ks))
-      (λ is. sign_here u us (fin 0 left.tree (lw us) (L us) (omega (arith, found_low x.text left tall (suc m) within))) 2 _
+      (λ is. sign_here u (mark_no_name (codes "[") u is) us (fin 0 left.tree (lw us) (L us) (omega (arith, found_low x.text left tall (suc m) within))) 2 _
       (are_more s x (sign x (codes "]") ∷ us) ax (with_sign s x (codes "]") refl _ su))
       (indexed line left lw L d us su fin tall within u is e) (λ us' k n. refl))
       (λ isnt. by_option a_step (step_tells b (u ∷ ks))
-      (λ st sg. by_placed _ left (λ p is. sign_here u us (fin 0 left.tree (lw us) (L us) (omega (arith, found_low x.text left tall (suc m) within))) 2 us su
+      (λ st sg. by_placed _ left (λ p is. sign_here u (row_no_name steps u st sg) us
+      (fin 0 left.tree (lw us) (L us) (omega (arith, found_low x.text left tall (suc m) within))) 2 us su
       (after_step line left lw L d us su fin tall within u st sg p is e) (λ us' k n. refl)))
       (λ none. read refl))
   suffixes_begin (suc n) line left lw L d us su fin [] e tall within = read refl
   suffixes_begin (suc n) line left lw L d us su fin (u ∷ ks) e tall within =
       by_test (sees (codes "[")) (sees_tells b (codes "[") (u ∷ ks))
-      (λ is. room_then m left.height _ _ us (fin 0 left.tree (lw us) (L us) (omega (arith, found_low x.text left tall (suc m) within))) _
+      (λ is. room_then m left.height _ _ (mark_no_name (codes "[") u is) us
+      (fin 0 left.tree (lw us) (L us) (omega (arith, found_low x.text left tall (suc m) within))) _
       (are_more s x (sign x (codes "]") ∷ us) ax (with_sign s x (codes "]") refl _ su))
       (indexed line left lw L d us su fin tall within u is e) (λ room.
       alike_viable {p = λ k. skip >>= λ v. expr m level.Whole >>= λ a. expect (codes "]") >>= λ v.
@@ -556,7 +391,8 @@ module _ {s : Meant} (Text : ℕ → List Token → Type 0) (b : Input) (x : Tok
       (λ one. suffixes (expr m) (place_of m) m line n one))))
       (λ isnt. by_option a_step (step_tells b (u ∷ ks))
       (λ s' sg. by_placed _ left
-      (λ p is. by_room m (height_as p left.height) us (fin 0 left.tree (lw us) (L us) (omega (arith, found_low x.text left tall (suc m) within))) us su
+      (λ p is. by_room m (height_as p left.height) (row_no_name steps u s' sg) us
+      (fin 0 left.tree (lw us) (L us) (omega (arith, found_low x.text left tall (suc m) within))) us su
       (after_step line left lw L d us su fin tall within u s' sg p is e) (λ room.
       after_token _ (suffixes_begin n line (above_place (λ q. tree.After line q s') (record { place = p; height = height_as p left.height }))
       (λ js. lw (u ∷ js))
@@ -580,13 +416,51 @@ module _ {s : Meant} (Text : ℕ → List Token → Type 0) (b : Input) (x : Tok
       (λ u ls less is'. finished _ (H level.Unary (λ js. d (t ∷ f.w (u ∷ js))) us su
       (λ over a ws q h. fin over (tree.Cast t.span.line to a) (t ∷ f.w (u ∷ ws)) (g.cast is (f.moves (u ∷ ws)) is' q) (omega (arith, h))) ls))))
 
+  -- a cast goes on from its first word
+  cast_goes : (t : Token) → Is (codes "(") t → (d : List Token → List Token) (us : List Token) → Are s us
+      → ((over : ℕ) (a : ExprTree) (ws : List Token) → Unary b.types a ws us → height_but x.text a ≤ suc m + over → Text over (d ws))
+      → (u : Token) → is_type b.types u ≡ true → (over : ℕ) × ((vs : List Token) × Are s vs × Text over (d (t ∷ u ∷ vs)))
+  cast_goes t is d us su fin u typed = by (bytes_eq u.text (codes "signed")) refl
+    where
+      end : List Token
+      end = sign x (codes ")") ∷ x ∷ us
+
+      end_are : Are s end
+      end_are = with_sign s x (codes ")") refl (x ∷ us) (are_more s x us ax su)
+
+      operand_there : Unary b.types (name_of x) (x ∷ us) us
+      operand_there = name_at b.types x vx level.Unary us
+
+      by : (c : Bool) → bytes_eq u.text (codes "signed") ≡ c → (over : ℕ) × ((vs : List Token) × Are s vs × Text over (d (t ∷ u ∷ vs)))
+      by false e = (
+        0,
+        (
+          end,
+          end_are,
+          fin 0 _ (t ∷ u ∷ end) (g.cast is (g.a_type (g.type_name (g.one_word typed) e) g.no_star) refl operand_there) (omega (arith, hole_none x)),
+        ),
+      )
+      by true e =
+          let same : u.text ≡ codes "signed" = (bytes_eq-Decides u.text (codes "signed")).0 e in
+          let joined : joins u.text (word x (codes "char")) ≡ true = rw same (char_joins x) in
+          let isnt : bytes_eq (u.text ++ 32 ∷ codes "char") (codes "signed") ≡ false = rw same refl in (
+            0,
+            (
+              word x (codes "char") ∷ end,
+              with_word s x (codes "char") refl end end_are,
+              fin 0 _ (t ∷ u ∷ word x (codes "char") ∷ end) (g.cast is (g.a_type (g.type_name (g.two_words typed joined) isnt) g.no_star) refl operand_there)
+                  (omega (arith, hole_none x)),
+            ),
+          )
+
   opened_begins : (t : Token) → Is (codes "(") t → (d : List Token → List Token) (us : List Token) → Are s us
       → ((over : ℕ) (a : ExprTree) (ws : List Token) → Unary b.types a ws us → height_but x.text a ≤ suc m + over → Text over (d ws))
       → (ts : List Token) → Viable s x m Text b (λ js. d (t ∷ js)) (λ k. opened (expr m) (place_of m) m t.span.line) ts
   unfolding opened
   opened_begins t is d us su fin ts =
       let end : List Token = sign x (codes ")") ∷ us in
-      by_test_no_name sees_type (type_tells b ts) (λ js k. name_no_type b x vx js k) (λ typed. cast_begins t is d us su fin ts)
+      by_test_no_name sees_type (is_type b.types) (λ js k. type_seen b js k) (variable_no_type b.types x vx) (λ u typed. cast_goes t is d us su fin u typed)
+      (λ typed. cast_begins t is d us su fin ts)
       (λ isnt. step_below (expr_local b m level.Whole ts) (expr_yields b m level.Whole ts)
       (H level.Whole (λ js. d (t ∷ js)) end (with_sign s x (codes ")") refl _ su)
       (λ over a ws q h. fin over (tree.Paren t.span.line a) (t ∷ ws) (g.is_operand (g.is_primary (g.paren is q refl))) (omega (arith, h))) ts)
@@ -667,7 +541,8 @@ module _ {s : Meant} (Text : ℕ → List Token → Type 0) (b : Input) (x : Tok
   climb_begins tight line zero left Can lw B now d us su fin (u ∷ ks) may e tall within =
       by_option (operator tight) (operator_tells b tight (u ∷ ks))
       (λ o is. let q = at_least_some tight (sign_in binary_ops u) o is in
-      sign_here u us (fin 0 left.tree (lw us) (B tight now us) (omega (arith, found_low x.text left tall (suc m) within))) 2 (x ∷ us) (are_more s x us ax su)
+      sign_here u (row_no_name binary_ops u o q.0) us
+      (fin 0 left.tree (lw us) (B tight now us) (omega (arith, found_low x.text left tall (suc m) within))) 2 (x ∷ us) (are_more s x us ax su)
       (fin 2 (tree.Two line o.0 left.tree (name_of x)) (lw (u ∷ x ∷ us))
       (two_of e (B o.1 (may o is) (u ∷ x ∷ us)) q.0 q.1 (name_at b.types x vx (level.Binary (o.1 + 1)) us))
       (omega (arith, found_low x.text left tall (suc m) within, hole_none x))) (λ us' k n. refl))
@@ -676,7 +551,8 @@ module _ {s : Meant} (Text : ℕ → List Token → Type 0) (b : Input) (x : Tok
   climb_begins tight line (suc n) left Can lw B now d us su fin (u ∷ ks) may e tall within =
       by_option (operator tight) (operator_tells b tight (u ∷ ks))
       (λ o is. let q = at_least_some tight (sign_in binary_ops u) o is in
-      by_room m left.height us (fin 0 left.tree (lw us) (B tight now us) (omega (arith, found_low x.text left tall (suc m) within))) (x ∷ us)
+      by_room m left.height (row_no_name binary_ops u o q.0) us
+      (fin 0 left.tree (lw us) (B tight now us) (omega (arith, found_low x.text left tall (suc m) within))) (x ∷ us)
       (are_more s x us ax su)
       (fin 2 (tree.Two line o.0 left.tree (name_of x)) (lw (u ∷ x ∷ us))
       (two_of e (B o.1 (may o is) (u ∷ x ∷ us)) q.0 q.1 (name_at b.types x vx (level.Binary (o.1 + 1)) us))
@@ -711,7 +587,8 @@ module _ {s : Meant} (Text : ℕ → List Token → Type 0) (b : Input) (x : Tok
   choose_begins line test tw T d us su fin t ts is e tall within =
       let end : List Token = sign x (codes ":") ∷ x ∷ us in
       let other : Choice b.types (name_of x) (x ∷ us) us = name_at b.types x vx level.Choice us in
-      by_room m test.height us (fin 0 test.tree (tw us) (g.is_binary (T us)) (omega (arith, found_low x.text test tall (suc m) within))) (x ∷ end)
+      by_room m test.height (mark_no_name (codes "?") t is) us
+      (fin 0 test.tree (tw us) (g.is_binary (T us)) (omega (arith, found_low x.text test tall (suc m) within))) (x ∷ end)
       (are_more s x end ax (with_sign s x (codes ":") refl _ (are_more s x us ax su)))
       (fin 2 (tree.Choice line test.tree (name_of x) (name_of x)) (tw (t ∷ x ∷ end))
       (chosen_of e (T (t ∷ x ∷ end)) is (as_primary (g.name vx)) refl other)
@@ -760,7 +637,7 @@ module _ {s : Meant} (Text : ℕ → List Token → Type 0) (b : Input) (x : Tok
       by_set left lw L tall within (u ∷ ks) =
           by_option assignment (assignment_tells b (u ∷ ks))
           (λ op sg. by_placed _ left
-          (λ p is. by_room m (height_as p left.height) us (fin 0 left.tree (lw us) (g.is_choice (L us))
+          (λ p is. by_room m (height_as p left.height) (row_no_name assignments u op sg) us (fin 0 left.tree (lw us) (g.is_choice (L us))
           (omega (arith, found_low x.text left tall (suc m) within))) (x ∷ us) (are_more s x us ax su)
           (fin 2 _ (lw (u ∷ x ∷ us))
           (g.set (place_in_choice left.tree p (lw (u ∷ x ∷ us)) (u ∷ x ∷ us) is (L (u ∷ x ∷ us))) sg (as_primary (g.name vx)))

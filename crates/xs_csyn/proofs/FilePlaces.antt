@@ -1,41 +1,42 @@
 -- Where tokens are not read as a file, the fault is at one token: those before it begin a file, and none that is read goes on with it.
-use Rattle.std.proofs.Common.{◌≡◌, ℕ, zero, suc, ◌+◌, ◌<◌, not, Bool, true, false, if◌then◌else◌, List, [], ◌∷◌, ◌++◌, length, map, Some, Result, Ok, Err, refl, ap, sym, subst, ◌∙◌, arith}
+use Rattle.std.proofs.Common.{◌≡◌, inr, ℕ, zero, suc, ◌<◌, not, Bool, true, false, if◌then◌else◌, List, [], ◌∷◌, ◌++◌, length, map, Some, Result, Ok, Err, refl, ap, sym, subst, ◌∙◌, arith}
 use Rattle.std.proofs.lemmas.Bool.{and_from, and_parts, not-true, or_from, or_parts}
 use Rattle.std.specs.Prelude.{codes}
 use Rattle.std.specs.Str.{bytes_eq}
 use Rattle.xs_base.specs.Names.{is_among}
 use Rattle.xs_base.specs.Reading as reading
-use Rattle.xs_base.specs.Readers.{and_then, head_is}
+use Rattle.xs_base.specs.Readers.{head_is}
 use Rattle.xs_base.specs.declared.fault.Fault.{Fault}
 use Rattle.xs_base.specs.declared.source.FileOf.{FileOf}
 use Rattle.xs_ctok.specs.declared.token.Token.{Token}
 use Rattle.xs_csyn.proofs.AnyDepth.{IsRead}
 use Rattle.xs_csyn.proofs.Breaks.{Viable, alike_viable, by_test, read, step}
 use Rattle.xs_csyn.proofs.BlocksBegin.{onward_by}
-use Rattle.xs_csyn.proofs.ExpressionPlaces.{stands_from}
+use Rattle.xs_csyn.proofs.ExpressionPlaces.{NamedRun, stands_from}
 use Rattle.xs_csyn.proofs.ExpressionsComplete.{type_first}
 use Rattle.xs_csyn.proofs.FileFrames.{fields_frame, item_standing}
 use Rattle.xs_csyn.proofs.FilesBegin.{item_begins}
 use Rattle.xs_csyn.proofs.FilesComplete.{items_done, kept_shrinks, names_after}
 use Rattle.xs_csyn.proofs.FilesLocal.{item_local}
 use Rattle.xs_csyn.proofs.FilesSound.{item_yields}
+use Rattle.xs_csyn.proofs.Fillers.{filler_law}
 use Rattle.xs_csyn.proofs.FormsBegin.{NoElse, far}
 use Rattle.xs_csyn.proofs.Frames.{IsFront, type_frame}
 use Rattle.xs_csyn.proofs.HoleHeights.{item_low}
 use Rattle.xs_csyn.proofs.Local.{Good, end_tells, proper, turned}
-use Rattle.xs_csyn.proofs.Marks.{words}
+use Rattle.xs_csyn.proofs.Marks.{variable_name, words}
 use Rattle.xs_csyn.proofs.MoreTurns.{items_same}
 use Rattle.xs_csyn.proofs.Sizes.{item_shrinks}
 use Rattle.xs_csyn.proofs.StatementsBegin.{fine_with, typed_no_else}
-use Rattle.xs_csyn.proofs.Yields.{at}
-use Rattle.xs_csyn.specs.FaultPlaces.{FileFaultLaw, IsFileBut, IsFileText, IsFileWithin, IsFiller}
+use Rattle.xs_csyn.specs.FaultPlaces.{FileFaultLaw, IsFileText, IsFileWithin, IsFiller}
 use Rattle.xs_csyn.specs.Prefixes.{FitItemsBut, IsFresh}
+use Rattle.xs_csyn.specs.TokenTexts.{AreSpelt}
 use Rattle.xs_csyn.specs.FileGrammar as g
 use Rattle.xs_csyn.specs.FileGrammar.{AHead, AreNames, File, Item}
 use Rattle.xs_cinput.specs.TypeReader.{with_name}
-use Rattle.xs_csyn.specs.FileReader.{defines_of, file_of, file_with, first_of_pair, item, items_from, start, type_of_item, with_types_of}
+use Rattle.xs_csyn.specs.FileReader.{defines_of, file_of, file_with, first_of_pair, items_from, start, type_of_item, with_types_of}
 use Rattle.xs_csyn.specs.FileTree.{FileTree, ItemTree}
-use Rattle.xs_cinput.specs.TokenInput.{Input, Outcome, at_end, fault, is_name, is_type, is_variable, kept, line}
+use Rattle.xs_cinput.specs.TokenInput.{Input, Outcome, at_end, fault, is_name, is_type, kept, line}
 use Rattle.xs_csyn.specs.declared.tree.Head.{Head}
 
 -- ---- names that are fresh
@@ -125,8 +126,10 @@ in_scope one sofar v = record {
         here = y.here;
         deep = y.deep;
         opens = y.opens;
+        stays = y.stays;
         long = y.long;
         same = λ js k n g. y.same js k n g;
+        staying = y.staying;
         more = y.more;
         text = y.text;
         cause = y.cause;
@@ -176,14 +179,33 @@ items_read : (b : Input) (Any : Type 0) (k : ℕ) (us : List Token) → b.types 
     → (p : List ItemTree × Input) × IsRead Any (items_from k [] (turned b k us)) p
 items_read b Any k us e few w = let m = items_done Any w.1 (turned b k us) e tt w.2 few k few [] in (([] ++ w.0, m.ends), m.is)
 
+-- a file within the bounds where a name counts as nothing, or over them
+abbrev Begun : Token → ℕ → List Token → Type 0
+Begun x over us = (all : List ItemTree) × File [] all us × (over ≡ 0 → FitItemsBut x.text all)
+
+begins : (file : FileOf) (last : ℕ) (ts : List Token) (x : Token) → IsFiller [] x → IsFresh x (kept true ts)
+    → Viable proper x (suc far) (Begun x) (start true ts [] file last) (λ js. js) (λ k. items_from k []) (kept true ts)
+begins file last ts x fill fresh =
+    items_begin (Begun x) x (suc (length (kept true ts))) (start true ts [] file last) fill tt [] (λ js. js) (λ over all ws q low. (all, q, low)) (kept true ts)
+    (omega arith) fresh
+
 pub file_fault_law : FileFaultLaw
 unfolding file_of
 file_fault_law file last ts f x spelt fill fresh h =
     let b : Input = start true ts [] file last in
     let good : Good proper b.turns (kept true ts) = (omega (arith, kept_shrinks true false ts), spelt) in
     let e : items_from b.turns [] b ≡ Err f = read_fault (items_from b.turns [] b) (file_with (defines_of ts)) (made_ok ts) f h in
-    let v = items_begin (λ over us. (all : List ItemTree) × File [] all us × (over ≡ 0 → FitItemsBut x.text all)) x
-    (suc (length (kept true ts))) b fill tt [] (λ js. js) (λ over all ws q low. (all, q, low)) (kept true ts)
-    (omega arith) fresh in
-    stands_from {Any = IsFileText} {r = λ k. items_from k []} (fill.is_spelt, tt) (λ us t. (t.0, t.1, t.2 refl)) (λ over us t. (t.0, t.1))
-    (given_fault file last) (λ Any us k few w. items_read b Any k us refl few w) (v.breaks good f e) good e
+    stands_from {Any = IsFileText} {Texts = Begun} {r = λ k. items_from k []} (λ us. Unit {0}) (λ us n. tt) (λ p us t. tt) (fill.is_spelt, tt)
+    (variable_name [] x fill.is_variable) (λ us t. (t.0, t.1, t.2 refl)) (λ y over us t. (t.0, t.1)) (λ more m some. given_fault file last more m)
+    (λ Deep us k some few w. items_read b Deep k us refl few w) (λ Deep us none d t. (t.0, t.1, inr d)) (λ more m some are e'. run more m are e')
+    ((begins file last ts x fill fresh).breaks good f e) good e
+  where
+    -- the run is completed with a name that stands nowhere in it
+    run : (more : List Token) (m : Fault) → AreSpelt (kept true more) → file_of file last more ≡ Err m
+        → NamedRun proper (suc far) Begun (start true more [] file last) (λ k. items_from k []) (kept true more) m
+    run more m are e' =
+        let b : Input = start true more [] file last in
+        let good : Good proper b.turns (kept true more) = (omega (arith, kept_shrinks true false more), are) in
+        let e : items_from b.turns [] b ≡ Err m = read_fault (items_from b.turns [] b) (file_with (defines_of more)) (made_ok more) m e' in
+        let z = filler_law [] (kept true more) in
+        record { filler = z.0; run = (begins file last more z.0 z.1 z.2).breaks good m e; good = good; fails = e }

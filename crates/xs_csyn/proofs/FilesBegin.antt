@@ -1,14 +1,15 @@
 -- Where reading an item of a file breaks off, the tokens that were passed begin one.
 use Rattle.xs_csyn.specs.TokenTexts.{AreSpelt}
 use Rattle.xs_csyn.proofs.FormsBegin.{far}
-use Rattle.std.proofs.Common.{◌≡◌, ℕ, zero, suc, ◌+◌, ◌-◌, ◌<◌, ◌≤◌, Bool, true, false, if◌then◌else◌, List, [], ◌∷◌, ◌++◌, length, refl, ap, sym, subst, ◌∙◌, arith}
-use Rattle.std.proofs.lemmas.Bool.{and_from, and_parts}
+use Rattle.std.proofs.Common.{◌≡◌, ℕ, zero, suc, ◌+◌, ◌-◌, ◌<◌, ◌≤◌, Bool, true, false, if◌then◌else◌, List, [], ◌∷◌, ◌++◌, length, refl, ◌∙◌, arith}
+use Rattle.std.proofs.lemmas.Bool.{and_from}
 use Rattle.std.specs.Prelude.{codes}
 use Rattle.xs_base.specs.Readers.{◌>>=◌, ◌>>◌, head_is, pure}
 use Rattle.xs_ctok.specs.declared.token.Token.{Token}
 use Rattle.xs_csyn.proofs.BlocksBegin.{InnerStmt, parts_begin, parts_from_begin, stmt_begins}
-use Rattle.xs_csyn.proofs.Breaks.{Viable, after_token, after_two, alike_viable, breaks_here, by_eat, by_expect, by_here, by_name, by_test, by_variable, finished, less_of, onward, read, step}
-use Rattle.xs_csyn.proofs.ExpressionsBegin.{sign, type_begins, type_then_begins, type_then_yields, word}
+use Rattle.xs_csyn.proofs.Breaks.{Viable, after_token, after_two, alike_viable, breaks_here, by_test, finished, less_of, onward, read, step}
+use Rattle.xs_csyn.proofs.TokenBreaks.{by_eat, by_expect, by_here, by_name, by_variable}
+use Rattle.xs_csyn.proofs.TypesBegin.{sign, type_begins, type_then_begins, type_then_yields, word}
 use Rattle.xs_csyn.proofs.ExpressionsSound.{type_yields}
 use Rattle.xs_csyn.proofs.FileFrames.{fields_frame, head_frame, parameter_at, parameter_frame}
 use Rattle.xs_csyn.proofs.FilesLocal.{args_row, body_then, field_local, fields_local, first_statement, head_local, no_args, no_end, none_here, parameter_first, parameter_local, parameter_then, parameter_then_local, parameters_first, parameters_then, unbegun, unvoid, void_alone, void_first, void_is_type, xs_body, xs_body_first}

@@ -1,5 +1,5 @@
 -- There is a name to complete with: one that is longer than all others.
-use Rattle.std.proofs.Common.{◌≡◌, ℕ, zero, suc, ◌+◌, ◌<◌, ◌≤◌, ◌||◌, not, Bool, true, false, nat_le, max, List, [], ◌∷◌, length, map, Option, Some, None, refl, ap, sym, ◌∙◌, arith}
+use Rattle.std.proofs.Common.{◌≡◌, ℕ, zero, suc, ◌+◌, ◌<◌, ◌≤◌, not, true, false, max, List, [], ◌∷◌, length, map, None, refl, ap, arith}
 use Rattle.std.proofs.lemmas.Bool.{and_from, false_from_ne_true, leb-true, or_from}
 use Rattle.std.proofs.lemmas.Slice.Eq.{bytes_eq-Decides}
 use Rattle.std.specs.Str.{bytes_eq}
@@ -8,8 +8,7 @@ use Rattle.xs_cinput.specs.Operators.{listed}
 use Rattle.xs_cinput.specs.TokenInput.{is_name}
 use Rattle.xs_csyn.specs.FaultPlaces.{FillerLaw, IsFiller}
 use Rattle.xs_csyn.specs.TokenTexts.{is_wordlike}
-use Rattle.xs_cstmt.specs.PerlForms.{Part, form_row, forms}
-use Rattle.xs_cstmt.specs.declared.forms.Form.{Form}
+use Rattle.xs_cstmt.specs.PerlForms.{forms}
 use Rattle.xs_ctok.specs.CWords.{grammar_words, is_no_name, type_words}
 use Rattle.xs_ctok.specs.declared.token.TokKind.TheVariants as kind
 use Rattle.xs_ctok.specs.declared.token.Token.{Token}

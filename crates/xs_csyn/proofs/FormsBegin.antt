@@ -7,8 +7,10 @@ use Rattle.std.specs.Prelude.{codes}
 use Rattle.xs_base.specs.Readers.{◌>>=◌, and_then, head_is, pure}
 use Rattle.xs_ctok.specs.declared.token.Literal.{Literal}
 use Rattle.xs_ctok.specs.declared.token.Token.{Token}
-use Rattle.xs_csyn.proofs.Breaks.{MayCome, Viable, after_token, alike, breaks_at_end, breaks_here, by_expect, by_here, by_name, by_passed, by_variable, by_word, fewer, finished, onward, other, read, retold, step, with_good}
-use Rattle.xs_csyn.proofs.ExpressionsBegin.{expr_begins, sign, sign_spelt}
+use Rattle.xs_csyn.proofs.Breaks.{MayCome, Viable, after_token, alike, breaks_here, fewer, finished, onward, other, read, retold, step, with_good}
+use Rattle.xs_csyn.proofs.TokenBreaks.{breaks_at_end, by_expect, by_here, by_name, by_passed, by_variable, by_word}
+use Rattle.xs_csyn.proofs.ExpressionsBegin.{expr_begins}
+use Rattle.xs_csyn.proofs.TypesBegin.{sign, sign_spelt}
 use Rattle.xs_csyn.proofs.FormRests.{fitting_read, form_first, form_rest, new_xs_rest, text_tells}
 use Rattle.xs_csyn.proofs.FormSlots.{Fitting, all_fit, all_fitting, fitting, one_fits, row_facts, form_slots, spelt, unspelt}
 use Rattle.xs_csyn.proofs.FormsComplete.{int_fits, perl_form_done, spelt_sign, spelt_word, text_fits}
@@ -25,7 +27,7 @@ use Rattle.xs_csyn.specs.Prefixes.{height_but, tallest_but}
 use Rattle.xs_cstmt.specs.StatementHeights.{depth}
 use Rattle.xs_csyn.specs.Grammar as r
 use Rattle.xs_csyn.specs.Grammar.{IsVariable, Whole}
-use Rattle.xs_cstmt.specs.PerlForms.{Part, a_text, an_int, expect_one, fits, form_at, form_row, int_ahead, int_of, is_no_operand, is_one, leads, perl_form, sees_one, text_ahead, text_of}
+use Rattle.xs_cstmt.specs.PerlForms.{Part, a_text, an_int, expect_one, fits, form_at, form_row, int_ahead, is_no_operand, is_one, leads, sees_one, text_ahead}
 use Rattle.xs_csyn.specs.TokenTexts.{AreSpelt, IsSpelt}
 use Rattle.xs_csyn.specs.StatementGrammar as g
 use Rattle.xs_csyn.specs.StatementGrammar.{Form as Formed, Statement}
@@ -138,17 +140,18 @@ pub form_front : (types : List (List ℕ)) {w : List Token → List Token} (f : 
 form_front types f us vs le = ap (form_at types) (f.is us) ∙ (form_long types f.before us vs le ∙ sym (ap (form_at types) (f.is vs)))
 
 -- The same words lead on, or do not, at each token that may come.
-pub leads_may : {x : Token} {opens c : Bool} (types : List (List ℕ)) (ss : List Part) (before rest us : List Token) → MayCome x opens rest us
+pub leads_may : {opens c : Bool} {stays : List Token → Bool} (types : List (List ℕ)) (ss : List Part) (before rest us : List Token)
+    → MayCome opens stays rest us
     → (SameNext rest us → leads types ss (before ++ us) ≡ c) → (opens ≡ true → length ss ≤ length before) → leads types ss (before ++ rest) ≡ c
     → leads types ss (before ++ us) ≡ c
 leads_may types ss before rest us (alike n) still long led = still n
-leads_may types ss before rest us (other o js e) still long led = leads_long types ss before us rest (long o) ∙ led
+leads_may types ss before rest us (other o e) still long led = leads_long types ss before us rest (long o) ∙ led
 
-pub form_may : {x : Token} {opens : Bool} (types : List (List ℕ)) (before rest us : List Token) → MayCome x opens rest us
+pub form_may : {opens : Bool} {stays : List Token → Bool} (types : List (List ℕ)) (before rest us : List Token) → MayCome opens stays rest us
     → (SameNext rest us → form_at types (before ++ us) ≡ None) → (opens ≡ true → suc far ≤ length before) → form_at types (before ++ rest) ≡ None
     → form_at types (before ++ us) ≡ None
 form_may types before rest us (alike n) still long none = still n
-form_may types before rest us (other o js e) still long none = form_long types before us rest (long o) ∙ none
+form_may types before rest us (other o e) still long none = form_long types before us rest (long o) ∙ none
 
 -- a statement with others after it
 pub lengthened : {types : List (List ℕ)} {s : StmtTree} {ts : List Token} → Statement types s ts [] → (us : List Token) → NoElse us
@@ -298,11 +301,11 @@ module _ (Text : ℕ → List Token → Type 0) (b : Input) (x : Token) (vx : Is
         subst (λ (l : List Token). Text over (d (t ∷ l)))
             (regrouped w front more) text,
       ))
-      (λ w front rest more long here text. (
+      (λ w front rest over u more long here text. (
         more ++ us,
         (λ a. are_join proper more us a su),
-        subst (λ (l : List Token). Text 0 (d (t ∷ l)))
-            (regrouped w front (x ∷ more)) text,
+        subst (λ (l : List Token). Text over (d (t ∷ l)))
+            (regrouped w front (u ∷ more)) text,
       ))
     where
       regrouped : (w : List Token → List Token) (front : IsFront w) (more : List Token) → w more ++ us ≡ w (more ++ us)
@@ -395,16 +398,17 @@ module _ (Text : ℕ → List Token → Type 0) (b : Input) (x : Token) (vx : Is
       by None n = as_effect n
       by (Some which) is = by_before front.before refl which is
 
-  -- the same of a name that would be too deep, after more tokens than a form has
+  -- the same of a token that may stand where a name would be too deep, after more tokens than a form has
   effect_name : (d : List Token → List Token) (us : List Token) → AreSpelt us
       → ((over : ℕ) (s : StmtTree) (ws : List Token) → Statement b.types s ws us → depth s ≤ 0 + over → tallest_but x.text s ≤ max_nesting + over
       → Text over (d ws))
-      → (ts : List Token) → form_at b.types ts ≡ None → (w : List Token → List Token) (f : IsFront w) (rest more : List Token) → suc far ≤ length f.before
-      → w rest ≡ ts → (a : ExprTree) → Whole b.types a (w (x ∷ more)) (stop ∷ us) → height_but x.text a ≤ max_nesting + 0
-      → (js : List Token) × (AreSpelt more → AreSpelt js) × Text 0 (d (w (x ∷ js)))
-  effect_name d us su fin ts none w f rest more long here a q low =
-      let still : form_at b.types (w (x ∷ more)) ≡ None = form_front b.types f (x ∷ more) rest long ∙ (ap (form_at b.types) here ∙ none) in
-      (more, (λ a. a), fin 0 (tree_stmt.Effect (r.line_of a) a) (w (x ∷ more)) (g.effect still q refl) (omega arith) low)
+      → (ts : List Token) → form_at b.types ts ≡ None → (w : List Token → List Token) (f : IsFront w) (rest : List Token) (over : ℕ) (t : Token)
+      (more : List Token) → suc far ≤ length f.before
+      → w rest ≡ ts → (a : ExprTree) → Whole b.types a (w (t ∷ more)) (stop ∷ us) → height_but x.text a ≤ max_nesting + over
+      → (js : List Token) × (AreSpelt more → AreSpelt js) × Text over (d (w (t ∷ js)))
+  effect_name d us su fin ts none w f rest over t more long here a q low =
+      let still : form_at b.types (w (t ∷ more)) ≡ None = form_front b.types f (t ∷ more) rest long ∙ (ap (form_at b.types) here ∙ none) in
+      (more, (λ a. a), fin over (tree_stmt.Effect (r.line_of a) a) (w (t ∷ more)) (g.effect still q refl) (omega arith) low)
 
   pub an_expr_begins : (d : List Token → List Token) (us : List Token) → AreSpelt us
       → ((over : ℕ) (a : ExprTree) (ws : List Token) → Whole b.types a ws us → height_but x.text a ≤ max_nesting + over → Text over (d ws))
@@ -424,7 +428,7 @@ module _ (Text : ℕ → List Token → Type 0) (b : Input) (x : Token) (vx : Is
       sx (λ js. js) (sign x (codes ";") ∷ us) (sign_spelt x (codes ";") refl, su)
       (λ over a ws q low. (a, q, low)) ts)
       (λ w front rest more here over y. effect_text Text b x vx sx nx over d us su ne fin ts none good.1 w front rest more here y.0 y.1 y.2)
-      (λ w front rest more long here y. effect_name Text b x vx sx d us su fin ts none w front rest more long here y.0 y.1 y.2))
+      (λ w front rest over t more long here y. effect_name Text b x vx sx d us su fin ts none w front rest over t more long here y.0 y.1 y.2))
       (λ a ks q. let h = whole_frame q.0 in
       let z = effect_text Text b x vx sx nx 0 d us su ne fin ts none good.1 h.w h.front ks (sign x (codes ";") ∷ us) h.here a
       (h.moves (sign x (codes ";") ∷ us))

@@ -28,6 +28,8 @@ pub mod FilesLocal
 pub mod HoleHeights
 pub mod Frames
 pub mod Breaks
+pub mod TokenBreaks
+pub mod TypesBegin
 pub mod ExpressionsBegin
 pub mod ExpressionPlaces
 pub mod ArgumentPlaces

@@ -1,6 +1,6 @@
 -- What a token is not.
-use Rattle.std.proofs.Common.{◌≡◌, ℕ, true, false, ◌&&◌, ◌||◌, not, List, [], ◌∷◌, None, refl, ap, ◌∙◌}
-use Rattle.std.proofs.lemmas.Bool.{and_from, and_left, and_parts, both_ways, false_from_ne_true, not-true, or_from, or_parts}
+use Rattle.std.proofs.Common.{◌≡◌, ℕ, Bool, true, false, if◌then◌else◌, ◌&&◌, ◌||◌, not, List, [], ◌∷◌, Option, Some, None, refl, ap, ◌∙◌}
+use Rattle.std.proofs.lemmas.Bool.{and_from, and_left, and_right, and_parts, both_ways, false_from_ne_true, not-true, or_from, or_parts}
 use Rattle.std.proofs.lemmas.Slice.Eq.{bytes_eq-Decides}
 use Rattle.std.specs.Str.{bytes_eq}
 use Rattle.xs_base.specs.Names.{is_among}
@@ -72,6 +72,21 @@ variable_name types u v = (and_parts (is_name u) (not (is_among types u.text)) v
 
 pub name_no_mark : (m : List ℕ) (u : Token) → MayName u → is_sign m u ≡ false
 name_no_mark m u n = no_mark m u (ap is_punct_kind (name_kind u n))
+
+-- what is no name: a punctuator, and a word of the grammar
+pub mark_no_name : (m : List ℕ) (u : Token) → Is m u → is_name u ≡ false
+mark_no_name m u is = and_left (is_word_kind u.kind) (not (is_no_name u.text)) (ap is_word_kind (is_sign_of m u is).0)
+
+pub row_no_name : {V : Type 0} (table : List (List ℕ × V)) (u : Token) (v : V) → sign_in table u ≡ Some v → is_name u ≡ false
+row_no_name {V} table u v e = by (is_punct_kind u.kind) refl e
+  where
+    by : (c : Bool) → is_punct_kind u.kind ≡ c → ◌≡◌ {A = Option V} (if c then listed table u.text else None) (Some v) → is_name u ≡ false
+    by true is h = and_left (is_word_kind u.kind) (not (is_no_name u.text)) (ap is_word_kind (sign_only u.kind is))
+    by false is h = absurd cc
+
+pub word_no_name : (word : List ℕ) (u : Token) → IsWord word u → is_no_name word ≡ true → is_name u ≡ false
+word_no_name word u is isnt =
+    and_right (is_word_kind u.kind) (not (is_no_name u.text)) (ap not (ap is_no_name (is_word_of word u is).1 ∙ isnt))
 
 -- a name is none of the words that are no names
 pub name_no_word : (m : List ℕ) (u : Token) → MayName u → is_no_name m ≡ true → is_word m u ≡ false

@@ -7,8 +7,9 @@ use Rattle.std.specs.Str.{bytes_eq}
 use Rattle.xs_base.specs.Readers.{◌>>=◌, ◌>>◌, and_then, head_is, pure}
 use Rattle.xs_base.specs.declared.fault.Fault.{Fault}
 use Rattle.xs_ctok.specs.declared.token.Token.{Token}
-use Rattle.xs_csyn.proofs.Breaks.{Viable, after_token, alike_viable, as_local, breaks_at_end, by_eat, by_expect, by_here, by_option, by_test, by_variable, by_variable_here, by_word_here, finished, less_of, onward, read, same_fault, step}
-use Rattle.xs_csyn.proofs.ExpressionsBegin.{int_is, sign, stars_viable, type_after_begins, type_after_yields, type_name_begins, sign_spelt, word_spelt, word}
+use Rattle.xs_csyn.proofs.Breaks.{Viable, after_token, alike_viable, as_local, by_option, by_test, finished, less_of, onward, read, same_fault, step}
+use Rattle.xs_csyn.proofs.TokenBreaks.{breaks_at_end, by_eat, by_expect, by_here, by_variable, by_variable_here, by_word_here}
+use Rattle.xs_csyn.proofs.TypesBegin.{int_is, sign, stars_viable, type_after_begins, type_after_yields, type_name_begins, sign_spelt, word_spelt, word}
 use Rattle.xs_csyn.proofs.ExpressionsComplete.{type_name_first}
 use Rattle.xs_csyn.proofs.ExpressionsSound.{stars_yields, type_name_yields}
 use Rattle.xs_csyn.proofs.FilesComplete.{type_no_word}
@@ -29,15 +30,15 @@ use Rattle.xs_csyn.proofs.StatementFrames.{Fine, begins_stays, declarator_frame,
 use Rattle.xs_csyn.proofs.StatementsLocal.{begins_row, declaration_after}
 use Rattle.xs_csyn.proofs.StatementsSound.{an_expr_yields, declarator_yields, declarators_yield, first_part_yields, label_yields, until_yields}
 use Rattle.xs_csyn.proofs.TypesLocal.{stars_local, type_after_local, type_name_local}
-use Rattle.xs_csyn.proofs.Yields.{Yields, at, weaken}
+use Rattle.xs_csyn.proofs.Yields.{at}
 use Rattle.xs_csyn.specs.FaultPlaces.{SameNext}
 use Rattle.xs_csyn.specs.FileGrammar.{AreNames}
 use Rattle.xs_csyn.specs.Prefixes.{height_but, option_height_but, tallest_but, tallest_first_but, tallest_value_but}
 use Rattle.xs_cstmt.specs.StatementHeights.{depth}
 use Rattle.xs_csyn.specs.Grammar as r
-use Rattle.xs_csyn.specs.Grammar.{Is, IsVariable, IsWord, Stars, TypeName, Whole}
+use Rattle.xs_csyn.specs.Grammar.{Is, IsVariable, IsWord, TypeName, Whole}
 use Rattle.xs_cstmt.specs.PerlForms as perl_forms
-use Rattle.xs_cstmt.specs.PerlForms.{begins_form_at, fits_first, form_ahead, form_at, form_row, forms, int_ahead, is_spelt, leads}
+use Rattle.xs_cstmt.specs.PerlForms.{begins_form_at, fits_first, form_at, form_row, forms, int_ahead, is_spelt, leads}
 use Rattle.xs_csyn.specs.TokenTexts.{AreSpelt, IsSpelt, is_wordlike}
 use Rattle.xs_csyn.specs.StatementGrammar as g
 use Rattle.xs_csyn.specs.StatementGrammar.{ALabel, Condition, Declarator, Declarators, Declared, First, ForHead, Groups, Labels, Part, Parts, Statement, Until, Value}
@@ -47,7 +48,7 @@ use Rattle.xs_cstmt.specs.StatementTree as tree_stmt
 use Rattle.xs_cexpr.specs.ExpressionTree.{ExprTree}
 use Rattle.xs_cstmt.specs.StatementTree.{DeclaratorTree, DeclaredTree, FirstTree, ForTree, GroupTrees, StmtTree, StmtTrees}
 use Rattle.xs_cinput.specs.TokenInput.{Input, Outcome, Reader, a_variable, expect, expect_word, is_punct_kind, is_type, is_word, is_word_kind, line, line_at, next, sees, sees_type, sees_variable, sees_word, skip}
-use Rattle.xs_cinput.specs.TypeReader.{stars, type_name}
+use Rattle.xs_cinput.specs.TypeReader.{type_name}
 use Rattle.xs_ctok.specs.CWords.{is_no_name, is_type_word}
 use Rattle.xs_cstmt.specs.declared.forms.Form.{Form}
 use Rattle.xs_cstmt.specs.declared.forms.Form.TheVariants as the
@@ -314,6 +315,7 @@ module _ (Text : ℕ → List Token → Type 0) (b : Input) (x : Token) (vx : Is
           here = ap (λ l. t ∷ l) y.here;
           deep = y.deep;
           opens = y.opens;
+          stays = y.stays;
           long = λ o. omega (arith, y.long o);
           same = λ js k n good'.
               reads k (y.w js) (ap (leads b.types row.1) (y.front.is js)
@@ -321,6 +323,7 @@ module _ (Text : ℕ → List Token → Type 0) (b : Input) (x : Token) (vx : Is
               (λ n'. led_still b names t ts row e isnt led (as_local y) js n' (subst AreSpelt (y.front.is js) good'.1.1))
               (λ o. omega (arith, y.long o, row_short t row e)) (ap (leads b.types row.1) (sym (y.front.is y.rest) ∙ y.here) ∙ led))
               ∙ ap (λ r. and_then r (λ p. pure (tree_stmt.Perl t.span.line p))) (y.same js k n (good_tail {u = t} refl good'));
+          staying = y.staying;
           more = y.more;
           text = y.text;
           cause = y.cause;
@@ -353,6 +356,7 @@ module _ (Text : ℕ → List Token → Type 0) (b : Input) (x : Token) (vx : Is
           here = y.here;
           deep = y.deep;
           opens = y.opens;
+          stays = y.stays;
           long = y.long;
           same = λ js k n good'.
               plain_here b k (y.w js) (ap (form_at b.types) (y.front.is js)
@@ -360,6 +364,7 @@ module _ (Text : ℕ → List Token → Type 0) (b : Input) (x : Token) (vx : Is
               (λ n'. unled_still b names t ts row e isnt led (as_local y) js n' (subst AreSpelt (y.front.is js) good'.1))
               y.long (ap (form_at b.types) (sym (y.front.is y.rest) ∙ y.here) ∙ none))
               ∙ y.same js k n good';
+          staying = y.staying;
           more = y.more;
           text = y.text;
           cause = y.cause;
@@ -580,15 +585,16 @@ module _ (Text : ℕ → List Token → Type 0) (b : Input) (x : Token) (vx : Is
       by false n = (more, (λ a. a), fin over (tree_stmt.Declare one) (w more) (g.declared n q) (omega arith) low)
       by true begun = by_before front.before refl begun
 
-  -- the same of a name that would be too deep, after more tokens than tell a form
+  -- the same of a token that may stand where a name would be too deep, after more tokens than tell a form
   pub declared_name : (d : List Token → List Token) (us : List Token) → AreSpelt us
       → ((over : ℕ) (s : StmtTree) (ws : List Token) → Part b.types s ws us → depth s ≤ 0 + over → tallest_but x.text s ≤ max_nesting + over
       → Text over (d ws))
-      → (ts : List Token) → begins_form_at b.types ts ≡ false → (w : List Token → List Token) (f : IsFront w) (rest more : List Token) → 1 < length f.before
-      → w rest ≡ ts → (one : DeclaredTree) → Declared b.types one (w (x ∷ more)) us → tallest_value_but x.text one.names ≤ max_nesting + 0
-      → (js : List Token) × (AreSpelt more → AreSpelt js) × Text 0 (d (w (x ∷ js)))
-  declared_name d us su fin ts none w f rest more long here one q low =
+      → (ts : List Token) → begins_form_at b.types ts ≡ false → (w : List Token → List Token) (f : IsFront w) (rest : List Token) (over : ℕ) (t : Token)
+      (more : List Token) → 1 < length f.before
+      → w rest ≡ ts → (one : DeclaredTree) → Declared b.types one (w (t ∷ more)) us → tallest_value_but x.text one.names ≤ max_nesting + over
+      → (js : List Token) × (AreSpelt more → AreSpelt js) × Text over (d (w (t ∷ js)))
+  declared_name d us su fin ts none w f rest over t more long here one q low =
       let there : begins_form_at b.types (f.before ++ rest) ≡ false = ap (begins_form_at b.types) (sym (f.is rest) ∙ here) ∙ none in
-      let still : begins_form_at b.types (w (x ∷ more)) ≡ false =
-      ap (begins_form_at b.types) (f.is (x ∷ more)) ∙ (begins_stays b.types f.before rest (x ∷ more) long ∙ there) in
-      (more, (λ a. a), fin 0 (tree_stmt.Declare one) (w (x ∷ more)) (g.declared still q) (omega arith) low)
+      let still : begins_form_at b.types (w (t ∷ more)) ≡ false =
+      ap (begins_form_at b.types) (f.is (t ∷ more)) ∙ (begins_stays b.types f.before rest (t ∷ more) long ∙ there) in
+      (more, (λ a. a), fin over (tree_stmt.Declare one) (w (t ∷ more)) (g.declared still q) (omega arith) low)

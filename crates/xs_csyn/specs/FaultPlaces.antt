@@ -34,24 +34,33 @@ abbrev pub code_of : Bool → ℕ
 code_of true = NESTED_TOO_DEEP
 code_of false = NO_READING_HERE
 
+-- What is read with these tokens kept is refused as too deep, on this line.
+abbrev pub RefusedOn : {T : Type 0} → (List Token → Result T Fault) → Bool → FileOf → ℕ
+    → List Token → Type 0
+RefusedOn read whole file line ts = (others : List Token) → kept whole others ≡ ts
+    → read others ≡ Err (fault_in file line (code_of true) [])
+
 -- Why what stands next would be too deep. `Begun` are the texts within the bounds where this name
--- counts as nothing, `Within` those within the bounds, and `Text` those of any depth.
-pub data TooDeepThere (Are Within Begun Text : List Token → Type 0) (x : Token)
+-- counts as nothing, `Within` those within the bounds, `Text` those of any depth, and `Refused`
+-- those that are refused as too deep at this name.
+pub data TooDeepThere (Are Within Begun Text Refused : List Token → Type 0) (x : Token)
     (before rest : List Token) : Type 0 where
   -- This name may stand there as an operand, but too deep: a text goes on with it where it counts
-  -- as nothing, and none does where it counts.
+  -- as nothing, and none does where it counts. Whatever follows, the name is refused.
   name_too_deep : (more : List Token) → Are (before ++ x ∷ more) → Begun (before ++ x ∷ more)
       → ((us : List Token) → Are (before ++ x ∷ us) → Within (before ++ x ∷ us) → ⊥)
-      → TooDeepThere Are Within Begun Text x before rest
+      → ((us : List Token) → Are (before ++ x ∷ us) → Refused (before ++ x ∷ us))
+      → TooDeepThere Are Within Begun Text Refused x before rest
   -- A text goes on with the token that stands there, but none within the bounds.
   token_too_deep : (t : Token) (us more : List Token) → rest ≡ t ∷ us → Are (before ++ t ∷ more)
-      → Text (before ++ t ∷ more) → TooDeepThere Are Within Begun Text x before rest
+      → Text (before ++ t ∷ more) → TooDeepThere Are Within Begun Text Refused x before rest
 
 -- The fault of tokens that are refused stands at the first of those that are left, or at the end.
 -- They are compared with others that are so. What is read of a whole file is without directives.
 -- `Within Any` are the texts within the bounds, and where `Any` holds those that are deeper too.
+-- `Names` says that no word of the grammar names a type.
 pub record StandsAt {T : Type 0} (read : List Token → Result T Fault) (whole : Bool)
-    (Are : List Token → Type 0) (Within : Type 0 → List Token → Type 0)
+    (Names : Type 0) (Are : List Token → Type 0) (Within : Type 0 → List Token → Type 0)
     (Begun Text : List Token → Type 0) (x : Token) (file : FileOf) (last : ℕ) (ts : List Token)
     (f : Fault) : Type 0 where
   pub before : List Token
@@ -70,7 +79,14 @@ pub record StandsAt {T : Type 0} (read : List Token → Result T Fault) (whole :
   pub more : List Token
   pub text : Begun (before ++ more)
   -- Where the fault is one of nesting, what stands next would be too deep.
-  pub cause : deep ≡ true → TooDeepThere Are (Within ⊥) Begun Text x before rest
+  pub cause : deep ≡ true → TooDeepThere Are (Within ⊥) Begun Text
+      (RefusedOn read whole file x.span.line) x before rest
+  -- Whether a node would be too deep is tested first: where the name in the place of what stands
+  -- there, with nothing after it, is refused as too deep on its own line, so is what stands there.
+  -- The early end is on another line.
+  pub named : Names → (others : List Token) → kept whole others ≡ before ++ x ∷ []
+      → (x.span.line ≡ last → ⊥) → read others ≡ Err (fault_in file x.span.line (code_of true) [])
+      → deep ≡ true
 
 -- A name that a text can be completed with: it names no type, and begins no form.
 pub record IsFiller (types : List (List ℕ)) (x : Token) : Type 0 where
@@ -106,7 +122,7 @@ abbrev pub ExprFaultLaw : Type 0
 ExprFaultLaw = (file : FileOf) (last : ℕ) (types : List (List ℕ)) (around : ℕ) (ts : List Token)
     (f : Fault) (x : Token) → IsVariable types x
     → expr_of file last types around ts ≡ Err f
-    → StandsAt (expr_of file last types around) false (λ js. Unit {0})
+    → StandsAt (expr_of file last types around) false (AreNames types) (λ js. Unit {0})
     (IsExprWithin types (max_nesting - around)) (IsExprBut x.text types (max_nesting - around))
     (IsExpr types) x file last (kept false ts) f
 
@@ -130,7 +146,7 @@ abbrev pub ArgumentsFaultLaw : Type 0
 ArgumentsFaultLaw = (file : FileOf) (last : ℕ) (types : List (List ℕ)) (around : ℕ)
     (ts : List Token) (f : Fault) (x : Token) → IsVariable types x
     → args_of file last types around ts ≡ Err f
-    → StandsAt (args_of file last types around) false (λ js. Unit {0})
+    → StandsAt (args_of file last types around) false (AreNames types) (λ js. Unit {0})
     (AreArgumentsWithin types (max_nesting - around))
     (AreArgumentsBut x.text types (max_nesting - around)) (AreArguments types) x file last
     (kept false ts) f
@@ -157,7 +173,7 @@ abbrev pub BlockFaultLaw : Type 0
 BlockFaultLaw = (file : FileOf) (last : ℕ) (types : List (List ℕ)) (around : ℕ) (ts : List Token)
     (f : Fault) (x : Token) → AreNames types → AreSpelt (kept false ts) → IsFiller types x
     → block_of file last types around ts ≡ Err f
-    → StandsAt (block_of file last types around) false AreSpelt
+    → StandsAt (block_of file last types around) false (Unit {0}) AreSpelt
     (IsBlockWithin types (max_nesting - around)) (IsBlockBut x.text types (max_nesting - around))
     (IsBlock types) x file last (kept false ts) f
 
@@ -180,5 +196,5 @@ abbrev pub FileFaultLaw : Type 0
 FileFaultLaw = (file : FileOf) (last : ℕ) (ts : List Token) (f : Fault) (x : Token)
     → AreSpelt (kept true ts) → IsFiller [] x → IsFresh x (kept true ts)
     → file_of file last ts ≡ Err f
-    → StandsAt (file_of file last) true AreSpelt IsFileWithin (IsFileBut x.text) IsFileText x file
-    last (kept true ts) f
+    → StandsAt (file_of file last) true (Unit {0}) AreSpelt IsFileWithin (IsFileBut x.text)
+    IsFileText x file last (kept true ts) f

@@ -16,12 +16,12 @@ fn tokens_in(rt: &impl Abort, alloc: Global, src: &[Line]) -> Result<Items<Token
 {
     assert!(rt; are_short(src));
     let all = tokens(alloc, src, FileOf::Text)?;
-    assert!(rt; all.len() < 100000);
+    assert!(rt; all.len() < 4_000_000);
     Ok(all)
 }
 
 fn check_text(rt: &impl Abort, alloc: Global, src: &Bytes) -> Result<(), Refuse> {
-    assert!(rt; src.len() < 100000);
+    assert!(rt; src.len() < 2_000_000);
     let all = lines(alloc, src)?;
     let last = early_end(alloc, src)?;
     let list = tokens_in(rt, alloc, all.as_slice())?;
@@ -92,5 +92,58 @@ fn type_files(rt: HostRuntime) -> Result<(), Fail> {
     for row in &FILES {
         hold_row(&rt, rt.alloc(), "", row, "@")?;
     }
+    Ok(())
+}
+
+/// The code and the line of the fault of a text.
+fn told(rt: &impl Abort, alloc: Global, src: &Bytes) -> Result<(u16, u32), Memory> {
+    let (code, line, _) = shown(alloc, check_text(rt, alloc, src))?;
+    Ok((code, line))
+}
+
+/// Adds parts that have a number between two texts.
+fn append_numbered(
+    alloc: Global,
+    src: &mut Bytes,
+    count: u32,
+    before: &[u8],
+    after: &[u8],
+) -> Result<(), Memory> {
+    for number in 0..count {
+        src.append(before)?;
+        src.append_number(alloc, u64::from(number))?;
+        src.append(after)?;
+    }
+    Ok(())
+}
+
+#[test]
+fn many_statements(rt: HostRuntime) -> Result<(), Fail> {
+    let mut src = Bytes::from_slice(rt.alloc(), b"XS(XS_M_k) { dXSARGS; int a;")?;
+    for _ in 0..20000 {
+        src.append(b"\na;")?;
+    }
+    src.append(b"b; }\n")?;
+    assert_eq!(&rt; told(&rt, rt.alloc(), &src)?, (801, 20001));
+    Ok(())
+}
+
+#[test]
+fn many_names(rt: HostRuntime) -> Result<(), Fail> {
+    let alloc = rt.alloc();
+    let mut src = Bytes::new(alloc);
+    append_numbered(alloc, &mut src, 1000, b"XS(XS_M_", b") { dXSARGS; }\n")?;
+    src.append(b"XS(boot_M) { dXSARGS;")?;
+    append_numbered(
+        alloc,
+        &mut src,
+        1000,
+        b" newXS_deffile(\"M::k\", XS_M_",
+        b");",
+    )?;
+    append_numbered(alloc, &mut src, 1000, b" int v", b";")?;
+    append_numbered(alloc, &mut src, 1000, b" v", b" = v999;")?;
+    src.append(b" }\n")?;
+    assert_eq!(&rt; told(&rt, alloc, &src)?, (0, 0));
     Ok(())
 }

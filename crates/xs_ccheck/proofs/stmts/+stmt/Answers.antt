@@ -4,7 +4,7 @@ use Rattle.xs_cstmt.specs.StatementViews.{stmt_tree}
 use Rattle.xs_ctree.specs.Functions.{stmt_in}
 use Rattle.xs_ctree.specs.Growth.{HasStmt}
 use Rattle.xs_ccheck.specs.Checked.{more}
-use Rattle.xs_ccheck.specs.Resolving.{HaveStmts, names_in}
+use Rattle.xs_ccheck.specs.Resolving.{HaveStmts}
 use Rattle.xs_ccheck.specs.Scopes.{scope_behind, scopes_behind}
 use Rattle.xs_ccheck.specs.StmtTyping.{stmt, stmts}
 use Rattle.xs_ccheck.proofs.Collecting.{step}
@@ -14,7 +14,7 @@ use Rattle.xs_ccheck.proofs.stmts.+stmt.Goals as goal
 
 pub stmts-loop-s-preserved : goal.stmts-loop-s-preserved
 stmts-loop-s-preserved t c =
-    let names = names_in c.args.items.now in
+    let names = c.args.names.now in
     let place = c.args.place in
     let body = c.args.body.now in
     let i = c.loop-s.s-index in

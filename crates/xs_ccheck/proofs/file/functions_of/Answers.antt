@@ -1,14 +1,13 @@
 use Rattle.std.proofs.Common.{◌+◌, ◌<◌, length, map, drop, arith}
 use Rattle.xs_csyn.specs.FileViews.{item_tree}
 use Rattle.xs_ccheck.specs.FileTyping.{functions, item}
-use Rattle.xs_ccheck.specs.Resolving.{names_in}
 use Rattle.xs_ccheck.proofs.Loops.{function_noted, functions_next}
-use Rattle.xs_ccheck.proofs.file.functions.Goals as goal
+use Rattle.xs_ccheck.proofs.file.functions_of.Goals as goal
 
 pub loop-at-preserved : goal.loop-at-preserved
 loop-at-preserved c =
     let items = c.args.items.now in
-    let names = names_in items in
+    let names = c.args.names.now in
     let i = c.loop-at.at in
     let x = c.index-items-at.result in
     let within : i < length items = omega (arith, c.loop-at-test.true) in

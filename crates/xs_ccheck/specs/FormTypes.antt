@@ -1,0 +1,106 @@
+-- The type of an expression, by the rule of its form, from the types of its parts. Nothing is asked
+-- here of the parts themselves: the type of a part that is at fault means nothing.
+use Rattle.std.specs.Prelude.{ℕ, Bool, true, ◌&&◌, if◌then◌else◌, nat_eq, List, [], ◌∷◌, length, Option, Some, None, codes}
+use Rattle.std.specs.Option.{is_some}
+use Rattle.std.specs.Str.{bytes_eq}
+use Rattle.xs_base.specs.declared.fault_codes.TheConstants.{UNKNOWN_NAME, UNKNOWN_FUNCTION, TYPES_DIFFER, WRONG_NUMBER_OF_ARGUMENTS, NOT_ASSIGNABLE}
+use Rattle.xs_values.specs.declared.kind.Kind.TheVariants.{I32}
+use Rattle.xs_values.specs.declared.model.DataModel.TheVariants.{Lp64}
+use Rattle.xs_values.specs.Literals.{literal_kind_of}
+use Rattle.xs_cinput.specs.declared.tree.BinaryOp.TheVariants as c
+use Rattle.xs_cexpr.specs.ExpressionTree as syntax
+use Rattle.xs_cexpr.specs.ExpressionTree.{ExprTree, ExprTrees, PlaceTree, VarPlace, StPlace}
+use Rattle.xs_perlapi.specs.declared.row.ApiType.{ApiType}
+use Rattle.xs_perlapi.specs.Table.{RowCall, row_named}
+use Rattle.xs_ctree.specs.declared.value_type.Slot.{Slot}
+use Rattle.xs_ctree.specs.declared.value_type.ValueType.{ValueType}
+use Rattle.xs_ctree.specs.declared.value_type.ValueType.TheVariants as type_of
+use Rattle.xs_ccheck.specs.Checked.{Judged, Fine, Wrong, when, unbuilt}
+use Rattle.xs_ccheck.specs.ExprTyping.{is_cv, text_in, unknown, usage_word}
+use Rattle.xs_ccheck.specs.Scopes.{Local, variable_of}
+use Rattle.xs_ccheck.specs.TypeNames.{type_named}
+use Rattle.xs_ccheck.specs.ValueTypes.{differ, goes_into, is_number, is_operand, of_cast, of_two, result_type}
+
+-- the type that a rule gives
+abbrev pub type_by : Judged ValueType → ValueType
+type_by (Fine t) = t
+type_by (Wrong code word) = type_of.Void
+
+-- ---- the rules
+
+-- a variable has the type of its declaration, and the item count is an int
+abbrev pub name_type : List ℕ → Option Slot → Judged ValueType
+name_type name (Some v) = Fine v.of_type
+name_type name None =
+    if bytes_eq name (codes "items") then Fine (type_of.Number I32) else unknown UNKNOWN_NAME name
+
+-- a name that is assigned to
+abbrev pub variable_type : List ℕ → Option Slot → Judged ValueType
+variable_type name (Some v) = Fine v.of_type
+variable_type name None =
+    if bytes_eq name (codes "items") then Wrong NOT_ASSIGNABLE [] else unknown UNKNOWN_NAME name
+
+-- ST(i) that is assigned to
+abbrev pub item_type : ValueType → Judged ValueType
+item_type at = when (is_number at) type_of.Scalar TYPES_DIFFER []
+
+-- an assignment has the type of what is assigned to
+abbrev pub set_type : ValueType → ValueType → Judged ValueType
+set_type to from = when (goes_into from to) to TYPES_DIFFER []
+
+-- whether operands of these types are those that a row takes
+abbrev pub fit : List ApiType → List ValueType → Bool
+fit [] ts = true
+fit (wanted ∷ others) [] = true
+fit (wanted ∷ others) (t ∷ ts) = is_operand wanted t && fit others ts
+
+-- a call of a row with operands of these types
+abbrev pub call_type : List ℕ → Option RowCall → List ValueType → Judged ValueType
+call_type name None ts = unknown UNKNOWN_FUNCTION name
+call_type name (Some r) ts =
+    if nat_eq (length ts) (length r.operands) then
+    when (fit r.operands ts) (result_type r.result) TYPES_DIFFER []
+    else Wrong WRONG_NUMBER_OF_ARGUMENTS name
+
+-- croak_xs_usage takes the word cv and a text
+abbrev pub usage_type : ExprTrees → Judged ValueType
+usage_type (syntax.MoreExprs a (syntax.MoreExprs b syntax.NoExprs)) =
+    when (is_cv a && is_some (text_in b)) type_of.Void TYPES_DIFFER []
+usage_type _ = Wrong WRONG_NUMBER_OF_ARGUMENTS usage_word
+
+-- ---- one rule for each form
+
+module _ (variables : List Local) where
+  unfoldable mutual
+    -- what the rule of its form says of an expression
+    pub expr_rule : ExprTree → Judged ValueType
+    expr_rule (syntax.Var line name) = name_type name (variable_of variables name)
+    expr_rule (syntax.Num line n) =
+        Fine (type_of.Number (literal_kind_of Lp64 n.base n.suffix n.value))
+    expr_rule (syntax.Str line text) = differ
+    expr_rule (syntax.Call line name args) =
+        if bytes_eq name usage_word then usage_type args
+        else call_type name (row_named name) (expr_types args)
+    expr_rule (syntax.Set line place None value) =
+        set_type (type_by (place_rule place)) (type_by (expr_rule value))
+    expr_rule (syntax.Two line (c.On op) a b) =
+        of_two op (type_by (expr_rule a)) (type_by (expr_rule b))
+    expr_rule (syntax.Cast line to a) =
+        of_cast (type_named to.name to.stars) (type_by (expr_rule a))
+    -- not built yet
+    expr_rule _ = unbuilt
+
+    pub expr_types : ExprTrees → List ValueType
+    expr_types syntax.NoExprs = []
+    expr_types (syntax.MoreExprs a rest) = type_by (expr_rule a) ∷ expr_types rest
+
+    -- what the rule of its form says of what is assigned to
+    pub place_rule : PlaceTree → Judged ValueType
+    place_rule (VarPlace line name) = variable_type name (variable_of variables name)
+    place_rule (StPlace line at) = item_type (type_by (expr_rule at))
+    -- not built yet
+    place_rule _ = unbuilt
+
+-- the type of an expression that is sound
+abbrev pub expr_type : List Local → ExprTree → ValueType
+expr_type variables e = type_by (expr_rule variables e)
