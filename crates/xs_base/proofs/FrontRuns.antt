@@ -1,6 +1,7 @@
 -- A run in front of a text and what stands after it make up the text.
-use Rattle.std.proofs.Common.{◌≡◌, ℕ, Bool, true, false, List, [], ◌∷◌, ◌++◌, length, take, drop, Option, None, Some, refl, ap, ◌∙◌}
+use Rattle.std.proofs.Common.{◌≡◌, ℕ, ◌+◌, ◌<◌, Bool, true, false, List, [], ◌∷◌, ◌++◌, length, take, drop, Option, None, Some, refl, ap, sym, ◌∙◌, arith}
 use Rattle.std.proofs.lemmas.Bool.{and_from, and_parts, eqb-true}
+use Rattle.std.proofs.lemmas.List.{length-append}
 use Rattle.std.proofs.lemmas.Option.{cond_some}
 use Rattle.std.specs.List.{list_all}
 use Rattle.std.specs.Prelude.{◌==◌, if◌then◌else◌, option_and_then}
@@ -68,6 +69,24 @@ after_seam class [] (b ∷ bs) all stop = rw stop refl
 after_seam class (b ∷ bs) rest all stop =
     let h = and_parts (belongs class b) (list_all (belongs class) bs) all in
     rw h.0 (after_seam class bs rest h.1 stop)
+
+-- a byte of a class in front is one of the run
+pub front_some : (class : ByteClass) (text : List ℕ) → head_is (belongs class) text ≡ true → 0 < length (front_of class text)
+front_some class [] h = absurd cc
+front_some class (b ∷ bs) h = by (belongs class b) h
+  where
+    by : (t : Bool) → t ≡ true → 0 < length (if t then b ∷ front_of class bs else [])
+    by true e = omega arith
+    by false e = absurd cc
+
+-- and bytes of a class begin with one
+pub head_belongs : (class : ByteClass) (run rest : List ℕ) → list_all (belongs class) run ≡ true → 0 < length run → head_is (belongs class) (run ++ rest) ≡ true
+head_belongs class [] rest all some = absurd (omega (arith, some))
+head_belongs class (b ∷ bs) rest all some = (and_parts (belongs class b) (list_all (belongs class) bs) all).0
+
+-- how long both are
+pub run_sizes : (class : ByteClass) (xs : List ℕ) → length (front_of class xs) + length (after_run class xs) ≡ length xs
+run_sizes class xs = sym (length-append (front_of class xs) (after_run class xs)) ∙ ap length (front_after class xs)
 
 -- ---- a word in front of a text
 

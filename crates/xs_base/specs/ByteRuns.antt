@@ -2,7 +2,7 @@
 use Rattle.std.specs.Prelude.{ℕ, not, ◌==◌, ◌&&◌, ◌||◌, nat_le, Bool, List, [], ◌∷◌, codes, if◌then◌else◌}
 use Rattle.xs_base.specs.Scanning.{starts_with, is_blank, is_ascii_digit, is_letter, is_word_byte}
 use Rattle.xs_base.specs.declared.byte_runs.ByteClass.{ByteClass}
-use Rattle.xs_base.specs.declared.byte_runs.ByteClass.TheVariants.{Blank, NoBlank, Digit, Letter, Capital, Word, Name, Space}
+use Rattle.xs_base.specs.declared.byte_runs.ByteClass.TheVariants.{Blank, NoBlank, Digit, Octal, Hexadecimal, Letter, Capital, Word, Name, Space}
 
 -- a capital letter or `_`, of which the words of keywords are made
 abbrev pub is_capital : ℕ → Bool
@@ -12,11 +12,22 @@ is_capital b = (nat_le 65 b && nat_le b 90) || b == 95
 abbrev pub is_space : ℕ → Bool
 is_space b = (nat_le 9 b && nat_le b 13) || b == 32
 
+-- an octal digit
+abbrev pub is_octal_digit : ℕ → Bool
+is_octal_digit b = nat_le 48 b && nat_le b 55
+
+-- a hexadecimal digit, with letters of either case
+abbrev pub is_hexadecimal_digit : ℕ → Bool
+is_hexadecimal_digit b =
+    is_ascii_digit b || (nat_le 65 b && nat_le b 70) || (nat_le 97 b && nat_le b 102)
+
 -- whether a byte is of a class
 abbrev pub belongs : ByteClass → ℕ → Bool
 belongs Blank b = is_blank b
 belongs NoBlank b = not (is_blank b)
 belongs Digit b = is_ascii_digit b
+belongs Octal b = is_octal_digit b
+belongs Hexadecimal b = is_hexadecimal_digit b
 belongs Letter b = is_letter b
 belongs Capital b = is_capital b
 belongs Word b = is_word_byte b

@@ -16,6 +16,10 @@ pub enum ByteClass {
     NoBlank,
     /// A decimal digit.
     Digit,
+    /// An octal digit.
+    Octal,
+    /// A hexadecimal digit, with letters of either case.
+    Hexadecimal,
     /// A letter of either case.
     Letter,
     /// A capital letter or `_`, of which the keywords of an XS file are made (perlxs).
@@ -34,6 +38,18 @@ fn is_capital(b: u8) -> bool
     b'A' <= b && b <= b'Z' || b == b'_'
 }
 
+fn is_octal_digit(b: u8) -> bool
+    ensures { result ≡ spec.is_octal_digit b }
+{
+    b'0' <= b && b <= b'7'
+}
+
+fn is_hexadecimal_digit(b: u8) -> bool
+    ensures { result ≡ spec.is_hexadecimal_digit b }
+{
+    is_ascii_digit(b) || b'A' <= b && b <= b'F' || b'a' <= b && b <= b'f'
+}
+
 fn is_space(b: u8) -> bool
     ensures { result ≡ spec.is_space b }
 {
@@ -41,13 +57,15 @@ fn is_space(b: u8) -> bool
 }
 
 /// Whether a byte is of a class.
-fn belongs(class: ByteClass, b: u8) -> bool
+pub fn belongs(class: ByteClass, b: u8) -> bool
     ensures { result ≡ spec.belongs class b }
 {
     match class {
         ByteClass::Blank => is_blank(b),
         ByteClass::NoBlank => !is_blank(b),
         ByteClass::Digit => is_ascii_digit(b),
+        ByteClass::Octal => is_octal_digit(b),
+        ByteClass::Hexadecimal => is_hexadecimal_digit(b),
         ByteClass::Letter => is_letter(b),
         ByteClass::Capital => is_capital(b),
         ByteClass::Word => is_word_byte(b),

@@ -67,7 +67,8 @@ fn after(bytes: &[u8], at: usize) -> &[u8]
     &bytes[at..]
 }
 
-fn without_carriage_return(bytes: &[u8]) -> &[u8]
+/// The bytes without a byte 13 at their end.
+pub fn without_carriage_return(bytes: &[u8]) -> &[u8]
     ensures { result.now ≡ strip_carriage_return bytes.now }
 {
     match bytes {

@@ -24,11 +24,11 @@ mod source;
 mod token_list;
 
 pub use byte_runs::{
-    ByteClass, after_blanks, are_all, cut_run, is_blank_line, is_decimal, is_remark,
+    ByteClass, after_blanks, are_all, belongs, cut_run, is_blank_line, is_decimal, is_remark,
     starts_with_class,
 };
 pub use bytes::Bytes;
-pub use cutting::{early_end, lines};
+pub use cutting::{early_end, lines, without_carriage_return};
 pub use desk::{Desk, DeskFault};
 pub use fault::{Fault, Refuse};
 pub use fault_codes::fault_text;

@@ -1,5 +1,5 @@
 -- The arguments of a call, made one after the other.
-use Rattle.std.proofs.Common.{◌≡◌, ◌≢◌, ℤ, pos, ℕ, ◌+◌, ◌<◌, Bool, true, false, cond, List, [], ◌∷◌, ◌++◌, drop, length, None, Some, Result, Ok, Err, IfOk, OnOk, refl, sym, ap, ◌∙◌, subst}
+use Rattle.std.proofs.Common.{◌≡◌, ◌≢◌, ℤ, pos, ℕ, ◌+◌, ◌<◌, Bool, true, false, cond, List, [], ◌∷◌, ◌++◌, drop, length, None, Some, Result, Ok, Err, IfOk, OnOk, refl, sym, ap, ◌∙◌, subst, append-nil}
 use Rattle.std.proofs.Math.ListN.{get_or}
 use Rattle.std.proofs.lemmas.List.{drop_more}
 use Rattle.std.specs.Prelude.{if◌then◌else◌}
@@ -126,3 +126,11 @@ pub call_goes_on : (code : Code) (m new : Mach World) (c : CallCommand) (cs : Li
 call_goes_on code m new c cs t h g =
     ap (λ x. x ++ go_on (call_report code m c).next (λ next. calls_report (call_report code) next cs)) (sym h.text_is)
     ∙ ap (λ n. t.text ++ go_on n (λ next. calls_report (call_report code) next cs)) (h.next_is ∙ ap (λ b. if b then Some new else None) g)
+
+-- A call that ends the script: nothing is reported after it.
+pub call_ends : (code : Code) (m new : Mach World) (c : CallCommand) (cs : List CallCommand) (t : Reported) → IsReported (call_report code m c) t new
+    → t.goes_on ≡ false → calls_report (call_report code) m (c ∷ cs) ≡ t.text
+call_ends code m new c cs t h g =
+    ap (λ x. x ++ go_on (call_report code m c).next (λ next. calls_report (call_report code) next cs)) (sym h.text_is)
+    ∙ ap (λ n. t.text ++ go_on n (λ next. calls_report (call_report code) next cs)) (h.next_is ∙ ap (λ b. if b then Some new else None) g)
+    ∙ append-nil t.text

@@ -131,7 +131,7 @@ module _ (typed code : Code) (m : Module) (good : IsSumModule m) (glue : code.fu
   boot_at_end : boot_at code ≡ Some boot
   boot_at_end =
       let front : 0 + length m.xsubs ≡ length m.xsubs = omega arith in
-      ap (λ fs. boot_at (record { functions = fs })) glue ∙ boot_index (boot_function m) 0 m.xsubs refl ∙ ap Some front
+      ap (λ fs. boot_at (record { records = []; functions = fs })) glue ∙ boot_index (boot_function m) 0 m.xsubs refl ∙ ap Some front
 
   boot_is : function_at code (Some boot) ≡ Some (boot_function m)
   boot_is = ap (λ fs. slice_get fs boot) glue ∙ last_function (boot_function m) m.xsubs

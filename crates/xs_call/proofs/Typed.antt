@@ -17,7 +17,7 @@ use Rattle.xs_iface.specs.SumForm.{Differ, IsSumModule, IsSumXsub}
 use Rattle.xs_iface.specs.ReservedWords.{is_free}
 use Rattle.xs_ccheck.proofs.Unlined.{stmts_bare, types_without_lines}
 use Rattle.xs_ccheck.specs.Checked.{Good}
-use Rattle.xs_ccheck.specs.FileTyping.{code_meant, function, functions, is_boot_name, item, item_name, sort_of, typed_of}
+use Rattle.xs_ccheck.specs.FileTyping.{code_meant, function, functions, is_boot_name, item, item_name, outermost, sort_of, typed_of}
 use Rattle.xs_ccheck.specs.Scopes.{Local, Scope, beginning, declared_in, outside, variable_of}
 use Rattle.xs_ccheck.specs.StmtTyping.{FileNames, index_of}
 use Rattle.xs_ccheck.specs.declared.names.Where.{Where}
@@ -181,12 +181,12 @@ bare_done name in_boot end us = record {
 
 module _ (names : FileNames) where
   made : (at line entry : ℕ) (name : List ℕ) (in_boot : Bool) (all : List StmtTree) (us : List Stmt) (end : Scope) → is_boot_name name ≡ in_boot
-      → Becomes names (record { in_boot = in_boot }) beginning all us end → index_of names.functions name ≡ Some at
+      → Becomes names (outermost in_boot) beginning all us end → index_of names.functions name ≡ Some at
       → IsFunction names at (XsFunItem (record { line = line; name = name; body = stmts_of (syntax.Perl entry dxsargs ∷ all) }))
       (bare_done name in_boot end us)
   unfolding function
   made at line entry name in_boot all us end e b k =
-      let after = become names (record { in_boot = in_boot }) b in
+      let after = become names (outermost in_boot) b in
       let first : Stmt = code.Effect (code.Api entry Entry code.NoExprs) in
       record {
         tree = record {
@@ -206,7 +206,7 @@ module _ (names : FileNames) where
 
   xsub_typed : (at : ℕ) (x : Xsub) → IsSumXsub x → index_of names.functions x.glue ≡ Some at → IsFunction names at (xsub_tree x) (xsub_function x)
   xsub_typed at x h k =
-      let w : Where = record { in_boot = false } in
+      let w : Where = outermost false in
       let inner = working x.line x.params in
       subst (λ ss. IsFunction names at (xsub_tree x) (record {
         name = x.glue;
@@ -221,7 +221,7 @@ module _ (names : FileNames) where
   boot_typed : (at : ℕ) (m : Module) → IndexedFrom 0 names.functions 0 (map (λ x. x.glue) m.xsubs)
       → index_of names.functions (codes "boot_" ++ underscored m.boot) ≡ Some at → IsFunction names at (boot_tree m) (boot_function m)
   boot_typed at m all k =
-      let w : Where = record { in_boot = true } in
+      let w : Where = outermost true in
       made at m.boot_line m.boot_line (codes "boot_" ++ underscored m.boot) true _ _ beginning (is_boot (underscored m.boot))
       (registrations_become names w beginning m.boot_line 0 m.xsubs refl all) k
 
@@ -229,10 +229,10 @@ module _ (names : FileNames) where
       → IndexedFrom 0 names.functions at (map (λ x. x.glue) xs ++ (codes "boot_" ++ underscored m.boot) ∷ [])
       → AreFunctions names at (map xsub_tree xs ++ boot_tree m ∷ []) (functions_on (boot_function m) xs)
   functions_typed m at [] hs all k =
-      let last = boot_typed at m all (indexed names (record { in_boot = true }) _ at k.0) in
+      let last = boot_typed at m all (indexed names (outermost true) _ at k.0) in
       record { trees = last.tree ∷ []; is = rw last.is refl; same = ap (λ f. f ∷ []) last.same }
   functions_typed m at (x ∷ xs) hs all k =
-      let first = xsub_typed at x hs.0 (indexed names (record { in_boot = true }) x.glue at k.0) in
+      let first = xsub_typed at x hs.0 (indexed names (outermost true) x.glue at k.0) in
       let rest = functions_typed m (at + 1) xs hs.1 all k.1 in
       record { trees = first.tree ∷ rest.trees; is = rw (first.is, rest.is) refl; same = ap₂ (λ f fs. f ∷ fs) first.same rest.same }
 
@@ -262,7 +262,7 @@ glue_typed m h =
     let names : FileNames = record { functions = glues ++ boot ∷ [] } in
     let them = functions_typed names m 0 m.xsubs h.xsubs (indexed_front 0 (glues ++ boot ∷ []) 0 glues (boot ∷ []) all) all in
     let named = ap (λ ns. functions (record { functions = ns }) 0 (map xsub_tree m.xsubs ++ boot_tree m ∷ [])) (names_are m m.xsubs) in
-    (record { functions = them.trees }, (rw (named ∙ them.is) refl, ap (λ fs. record { functions = fs }) them.same))
+    (record { records = []; functions = them.trees }, (rw (named ∙ them.is) refl, ap (λ fs. record { records = []; functions = fs }) them.same))
 
 -- So has each tree that is equal to it but for lines.
 pub text_typed : TextResolves

@@ -12,7 +12,7 @@ use Rattle.xs_perlapi.specs.Table.{is_interface_word}
 use Rattle.xs_iface.specs.ReservedWords.{glue_words, is_free, is_no_xsub_name}
 use Rattle.xs_ctree.specs.declared.value_type.Slot.{Slot}
 use Rattle.xs_ctree.specs.declared.value_type.ValueType.TheVariants.{Number, Scalar}
-use Rattle.xs_ctok.specs.CWords.{is_dropped_statement, is_dropped_word, is_no_name, is_reserved, other_reserved}
+use Rattle.xs_ctok.specs.CWords.{is_dropped_statement, is_dropped_word, is_no_name, is_reserved}
 use Rattle.xs_ccheck.specs.Scopes.{Local, variable_of}
 use Rattle.xs_ccheck.specs.StmtTyping.{index_from}
 use Rattle.xs_stub.specs.Stub.{name_or_nothing}
@@ -31,7 +31,7 @@ own_word : (word : List ℕ) → is_no_xsub_name word ≡ false → (is_interfac
 own_word word h =
     let own = or_parts (is_reserved word) (is_among glue_words word) h in
     let kept = or_parts (is_dropped_word word) _ (or_parts (is_no_name word) _ own.0).1 in
-    ((or_parts (is_interface_word word) (is_among other_reserved word) (or_parts (is_dropped_statement word) _ kept.1).1).0, own.1)
+    ((or_parts (is_dropped_statement word) _ kept.1).1, own.1)
 
 pub no_interface_word : (word : List ℕ) → is_no_xsub_name word ≡ false → is_interface_word word ≡ false
 no_interface_word word h = (own_word word h).0

@@ -29,15 +29,17 @@ use Rattle.xs_ccheck.specs.ExprTyping.{TypedExpr, as_typed, expr, exprs, literal
 use Rattle.xs_ccheck.specs.Scopes.{Local, Scope, declared_in, is_in_use, knowing, new_variable, next_slot, outside, scope_behind, scopes_behind, variable_of}
 use Rattle.xs_ccheck.specs.StmtTyping.{FileNames, effect, index_from, index_of, stmt, stmts}
 use Rattle.xs_ccheck.specs.TypeNames.{type_named}
+use Rattle.xs_values.specs.Types.{number_types}
 use Rattle.xs_ccheck.proofs.Unlined.{effect_bare, stmts_bare}
 use Rattle.xs_perlapi.specs.Table.{is_interface_word}
 use Rattle.xs_perlapi.specs.Table.{api_words, row_named}
 use Rattle.xs_stub.specs.Intended as intended
-use Rattle.xs_stub.specs.Intended.{base_of, call_of, declared, declared_int, declared_param, int_argument, int_type, inputs_from, iv_type, no_suffix, number, registration, return_one, return_yes, returned_value, sum_of, usage_test}
+use Rattle.xs_stub.specs.Intended.{call_of, declared, declared_int, declared_param, int_argument, int_type, inputs_from, iv_type, no_suffix, number, registration, return_one, return_yes, returned_value, sum_of, usage_test}
 use Rattle.xs_stub.specs.Stub.{joined_names, name_or_nothing}
 use Rattle.xs_values.proofs.Wrapping.{wrapped_value-held}
 use Rattle.xs_values.specs.declared.kind.Kind.TheVariants.{I32, I64}
 use Rattle.xs_values.specs.declared.literal.Base.{Base}
+use Rattle.xs_values.specs.declared.literal.Base.TheVariants.{Decimal}
 use Rattle.xs_values.specs.declared.model.DataModel.TheVariants.{Lp64}
 use Rattle.xs_values.specs.declared.operator.Op.TheVariants as op
 use Rattle.xs_values.specs.Literals.{literal_kind_of}
@@ -71,7 +73,7 @@ pub record Is (variables : List Local) (a : ExprTree) (t : Expr) (ty : ValueType
 module _ (variables : List Local) where
   number_typed : (line v : ℕ) → v ≤ greatest_int → Is variables (number line v) (int_literal v) (Number I32)
   unfolding expr
-  number_typed line v h = record { tree = int_literal v; is = ap Good (literal_typed (base_of v) v h); same = refl }
+  number_typed line v h = record { tree = int_literal v; is = ap Good (literal_typed Decimal v h); same = refl }
 
   name_typed : (line : ℕ) (name : List ℕ) (v : Slot) → variable_of variables name ≡ Some v
       → Is variables (syntax_expr.Var line name) (Variable v.number) v.of_type
@@ -113,12 +115,12 @@ module _ (variables : List Local) where
 
   as_int_typed : (line : ℕ) (a : ExprTree) (t : Expr) → Is variables a t (Number I64)
       → Is variables (syntax_expr.Cast line (int_type line) a) (Cast (Number I32) t) (Number I32)
-  unfolding expr type_named
+  unfolding expr type_named number_types
   as_int_typed line a t h = record { tree = Cast (Number I32) h.tree; is = rw h.is refl; same = ap (Cast (Number I32)) h.same }
 
   as_iv_typed : (line : ℕ) (a : ExprTree) (t : Expr) → Is variables a t (Number I32)
       → Is variables (syntax_expr.Cast line (iv_type line) a) (Cast (Number I64) t) (Number I64)
-  unfolding expr type_named
+  unfolding expr type_named number_types
   as_iv_typed line a t h = record { tree = Cast (Number I64) h.tree; is = rw h.is refl; same = ap (Cast (Number I64)) h.same }
 
   argument_typed : (line place : ℕ) → place ≤ greatest_int
@@ -286,7 +288,7 @@ module _ (names : FileNames) (w : Where) where
   pub int_declared : (variables : List Local) (line : ℕ) (name : List ℕ) → is_in_use variables name ≡ false
       → IsStmt names w (within variables) (within (variables ++ int_local line name (length variables) ∷ [])) (declared_int line name)
       (code.Declare 0 (length variables))
-  unfolding stmt scope_behind type_named
+  unfolding stmt scope_behind type_named number_types
   int_declared variables line name h = record {
     tree = code.Declare line (length (within variables).slots);
     is = rw h refl;
@@ -297,7 +299,7 @@ module _ (names : FileNames) (w : Where) where
   pub scalar_declared : (variables : List Local) (line : ℕ) (name : List ℕ) → is_in_use variables name ≡ false
       → IsStmt names w (within variables) (within (variables ++ scalar_local line name (length variables) ∷ [])) (declared line (codes "SV") 1 name)
       (code.Declare 0 (length variables))
-  unfolding stmt scope_behind type_named
+  unfolding stmt scope_behind type_named number_types
   scalar_declared variables line name h = record {
     tree = code.Declare line (length (within variables).slots);
     is = rw h refl;
@@ -380,9 +382,9 @@ module _ (names : FileNames) (w : Where) where
   -- ---- the boot function
 
   registered : (at : Scope) (line place : ℕ) (x : Xsub) → w.in_boot ≡ true → index_of names.functions x.glue ≡ Some place
-      → IsStmt names w at at (registration line x) (Register x.full place)
+      → IsStmt names w at at (registration line x) (Register x.full place false)
   unfolding stmt scope_behind
-  registered at line place x h k = record { tree = Register x.full place; is = rw (k, h) refl; same = refl; moves = refl }
+  registered at line place x h k = record { tree = Register x.full place false; is = rw (k, h) refl; same = refl; moves = refl }
 
   returned_yes : (at : Scope) (line : ℕ) → IsStmt names w at at (syntax_stmt.Perl line return_yes) (row_quits XsReturnYes [])
   unfolding stmt scope_behind

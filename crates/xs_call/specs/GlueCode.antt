@@ -1,7 +1,7 @@
 -- The typed code of a module's glue: what its glue text is once names are slots and each node has
 -- its type, without the places that it tells.
 use Rattle.xs_perlapi.specs.declared.row.Row.TheVariants.{Entry, SvNewMortal, SvSetIv, XsReturn, XsReturnYes}
-use Rattle.std.specs.Prelude.{ℕ, ◌+◌, List, [], ◌∷◌, ◌++◌, fold, length, map, codes}
+use Rattle.std.specs.Prelude.{ℕ, ◌+◌, false, List, [], ◌∷◌, ◌++◌, fold, length, map, codes}
 use Rattle.xs_iface.specs.Iface.{underscored}
 use Rattle.xs_iface.specs.declared.xsub.Module.{Module}
 use Rattle.xs_iface.specs.declared.xsub.Param.{Param}
@@ -95,7 +95,7 @@ xsub_function x =
 abbrev pub registrations : ℕ → List Xsub → List Stmt
 registrations function [] = row_quits XsReturnYes [] ∷ []
 registrations function (x ∷ xs) =
-    Register x.full function ∷ registrations (function + 1) xs
+    Register x.full function false ∷ registrations (function + 1) xs
 
 abbrev pub boot_body : List Xsub → Stmt
 boot_body xs = block_of [] (row_done Entry [] ∷ registrations 0 xs)
@@ -113,4 +113,4 @@ functions_on last xs = map xsub_function xs ++ last ∷ []
 
 -- the glue of a module: a function for each XSUB, in order, and the boot function
 unfoldable pub glue_code : Module → Code
-glue_code m = record { functions = functions_on (boot_function m) m.xsubs }
+glue_code m = record { records = []; functions = functions_on (boot_function m) m.xsubs }

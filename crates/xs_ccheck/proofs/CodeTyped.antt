@@ -1,17 +1,18 @@
 -- The code of a file has the types that the rules of its forms give.
 use Rattle.std.proofs.Common.{◌≡◌, ℕ, Bool, true, false, cond, List, [], ◌∷◌, map, length, codes, Option, None, Some, Ok, slice_get, refl, subst, arith}
-use Rattle.std.specs.Prelude.{nat_eq}
+use Rattle.std.specs.Prelude.{◌||◌, nat_eq, unwrap_or}
+use Rattle.std.specs.Option.{option_map}
 use Rattle.std.specs.Str.{bytes_eq}
 use Rattle.std.proofs.lemmas.Bool.{and_parts}
 use Rattle.std.proofs.lemmas.Bool.Decides.{nat_tests}
-use Rattle.xs_base.specs.declared.fault_codes.TheConstants.{DECLARED_TWICE, TYPES_DIFFER, WRONG_NUMBER_OF_ARGUMENTS}
+use Rattle.xs_base.specs.declared.fault_codes.TheConstants.{DECLARED_TWICE, TYPES_DIFFER, WORD_NOT_ALLOWED, WRONG_NUMBER_OF_ARGUMENTS}
 use Rattle.xs_values.specs.declared.kind.Kind.TheVariants.{I32}
 use Rattle.xs_values.specs.declared.operator.Op.{Op}
 use Rattle.xs_cinput.specs.declared.tree.BinaryOp.TheVariants as c
 use Rattle.xs_cexpr.specs.ExpressionTree as syntax
 use Rattle.xs_cexpr.specs.ExpressionTree.{ExprTree, ExprTrees, PlaceTree, VarPlace, StPlace}
 use Rattle.xs_cstmt.specs.StatementTree as statement
-use Rattle.xs_cstmt.specs.StatementTree.{DeclaratorTree, StmtTree, StmtTrees}
+use Rattle.xs_cstmt.specs.StatementTree.{DeclaratorTree, FirstTree, StmtTree, StmtTrees, GroupTrees}
 use Rattle.xs_cstmt.specs.declared.tree.PerlForm.{PerlForm}
 use Rattle.xs_cstmt.specs.declared.tree.PerlForm.TheVariants as form
 use Rattle.xs_cstmt.specs.declared.tree.PerlWord.{PerlWord}
@@ -27,16 +28,16 @@ use Rattle.xs_ctree.specs.TypedTree.{Code, Expr, Function, Stmt, exprs_of, nothi
 use Rattle.xs_ccheck.specs.declared.names.Where.{Where}
 use Rattle.xs_ccheck.specs.Checked.{Checked, Good, Fine, Wrong}
 use Rattle.xs_ccheck.specs.CodeTypes as typing
-use Rattle.xs_ccheck.specs.CodeTypes.{HasType, AreOperands, IsTarget, IsTyped, AreTyped}
-use Rattle.xs_ccheck.specs.ExprTyping.{TypedExpr, TypedTarget, all_fit, as_typed, called, cast, expr, exprs, is_cv, name_meant, place_in, row_called, text_in, typed, usage, usage_of, usage_word, variable_place}
-use Rattle.xs_ccheck.specs.FileTyping.{entry_of, typed_of, where_in, with_entry}
-use Rattle.xs_ccheck.specs.Scopes.{Local, Scope, beginning, declarators_behind, is_in_use, new_variable, next_slot, scope_behind, scopes_behind, variable_of, with_variable}
-use Rattle.xs_ccheck.specs.StmtTyping.{FileNames, declaration, declarator, declared, index_of, perl, perl_word, quits, registered, stmt, stmts}
-use Rattle.xs_ccheck.specs.TypeNames.{declared_type, type_named}
+use Rattle.xs_ccheck.specs.CodeTypes.{HasType, AreOperands, IsTarget, IsTest, IsEach, IsTyped, AreTyped, AreGroups, result_of}
+use Rattle.xs_ccheck.specs.ExprTyping.{TypedExpr, TypedTarget, all_fit, as_typed, called, cast, expr, exprs, is_cv, name_meant, option_expr, place_in, row_called, text_in, typed, usage, usage_of, usage_word, variable_place}
+use Rattle.xs_ccheck.specs.FileTyping.{entry_of, is_boot_name, sort_of, typed_of, where_in, with_entry}
+use Rattle.xs_ccheck.specs.Scopes.{Local, Scope, beginning, declared_in, declarators_behind, first_behind, groups_behind, is_in_use, name_behind, new_variable, next_slot, scope_behind, scopes_behind, variable_of, with_variable}
+use Rattle.xs_ccheck.specs.StmtTyping.{FileNames, TypedGroup, begun, conditional, declaration, declarator, declarators, declared, first_part, for_loop, function_end, groups, groups_of, in_group, in_order, in_turn, index_of, is_given, is_test, labels, may_return, perl, perl_word, quits, registered, stated, stmt, stmts, switched, test_of, unset}
+use Rattle.xs_ccheck.specs.TypeNames.{type_named}
 use Rattle.xs_ccheck.specs.ValueTypes.{casts, goes_into, is_condition, is_number, is_operand, of_two}
 use Rattle.xs_ccheck.proofs.GoodFunctions.{OfItem, each_function, function_of, statements_of}
-use Rattle.xs_ccheck.proofs.ScopesGrow.{Grown, Held, scope_grown, scopes_grown, slot_last}
-use Rattle.xs_ccheck.proofs.WhereGood.{WhereFine, WhereGood, behind_good, both_good, fine_by, fine_unless, judged_good, two_wrongs}
+use Rattle.xs_ccheck.proofs.ScopesGrow.{Grown, Held, first_grown, groups_grown, name_grown, names_grown, scope_grown, scopes_grown, slot_last}
+use Rattle.xs_ccheck.proofs.WhereGood.{WhereFine, WhereGood, anything, behind_good, both_good, fine_by, judged_good, two_wrongs}
 
 module _ (slots : List Slot) where
   abbrev IsExpr : TypedExpr → Type 0
@@ -169,8 +170,13 @@ module _ (slots : List Slot) where
   abbrev Within : Scope → Type 0
   Within s = (i : ℕ) (z : Slot) → slice_get s.slots i ≡ Some z → slice_get slots i ≡ Some z
 
-  abbrev AllTyped : List Stmt → Type 0
-  AllTyped ts = AreTyped slots (stmts_of ts)
+  abbrev IsOption : Option TypedExpr → Type 0
+  IsOption None = Unit {0}
+  IsOption (Some x) = IsExpr x
+
+  option_typed : (vs : List Local) → Held slots vs → (e : Option ExprTree) → WhereGood IsOption (option_expr vs e)
+  option_typed vs held None = record { good = tt }
+  option_typed vs held (Some e) = behind_good IsExpr IsOption (expr vs e) _ (expr_typed vs held e) (λ x h. record { good = h })
 
   held_within : (s : Scope) → Held s.slots s.variables → Within s → Held slots s.variables
   held_within s held w name z e = w z.number z (held name z e)
@@ -178,81 +184,237 @@ module _ (slots : List Slot) where
   before : (s t : Scope) → Grown s t → Within t → Within s
   before s t g w i z e = w i z (g.kept i z e)
 
-  declared_typed : (s : Scope) (line : ℕ) (name : List ℕ) (t : ValueType) (o : Option ValueType) → Within (with_variable s line name t)
-      → WhereFine (IsTyped slots) (declared s line name o)
-  declared_typed s line name t None w = tt
-  declared_typed s line name t (Some u) w = by (is_in_use s.variables name) w
-    where
-      by : (b : Bool) → Within (cond b s (new_variable s name (next_slot s line t)))
-          → WhereFine (IsTyped slots) (cond b (Wrong DECLARED_TWICE name) (Fine (tree.Declare line (length s.slots))))
-      by true w = tt
-      by false w = typing.declaration (w (length s.slots) (next_slot s line t) (slot_last s.slots (next_slot s line t)))
+  -- the statements of a function that gives a result of a type
+  module _ (result : ValueType) where
+    abbrev IsStmt : Stmt → Type 0
+    IsStmt t = IsTyped slots result t
 
-  one_typed : (s : Scope) (line : ℕ) (base : List ℕ) (d : DeclaratorTree) (value : Option ExprTree)
-      → Within (with_variable s d.line d.name (declared_type base d.stars)) → WhereGood (IsTyped slots) (declarator line s base d value)
-  one_typed s line base d None w =
-      judged_good (IsTyped slots) d.line _ (declared_typed s d.line d.name (declared_type base d.stars) (type_named base d.stars) w)
-  one_typed s line base d (Some value) w = record { good = tt }
+    abbrev AllTyped : List Stmt → Type 0
+    AllTyped ts = AreTyped slots result (stmts_of ts)
 
-  declaration_typed : (s : Scope) (line : ℕ) (base : List ℕ) (ds : List DeclaratorTree) → Within (declarators_behind base s ds)
-      → WhereGood (IsTyped slots) (declaration line s base ds)
-  declaration_typed s line base [] w = record { good = tt }
-  declaration_typed s line base (d ∷ []) w = one_typed s line base d d.value w
-  declaration_typed s line base (d ∷ e ∷ ds) w = record { good = tt }
+    -- what is declared with a type
+    declared_typed : (s : Scope) (line : ℕ) (name : List ℕ) (o given : Option ValueType) (made : ValueType → Stmt)
+        → ((v : ValueType) → is_given given v ≡ true → slice_get slots (length s.slots) ≡ Some (next_slot s line v) → IsStmt (made v))
+        → Within (with_variable s line name (unwrap_or o type_of.Faulty)) → WhereFine IsStmt (stated made (declared s name o given))
+    declared_typed s line name None given made h w = tt
+    declared_typed s line name (Some v) given made h w = by_given (is_given given v) refl
+      where
+        by : (b : Bool) → is_given given v ≡ true → Within (cond b s (new_variable s name (next_slot s line v)))
+            → WhereFine IsStmt (stated made (cond b (Wrong DECLARED_TWICE name) (Fine v)))
+        by true e w = tt
+        by false e w = h v e (w (length s.slots) (next_slot s line v) (slot_last s.slots (next_slot s line v)))
 
-  effect_typed : (line : ℕ) (x : TypedExpr) (b : Bool) → IsExpr x → IsTyped slots (cond b (tree.Quit line x.tree) (tree.Effect x.tree))
-  effect_typed line x true h = typing.quit h
-  effect_typed line x false h = typing.effect h
+        by_given : (g : Bool) → is_given given v ≡ g
+            → WhereFine IsStmt (stated made (cond g (cond (is_in_use s.variables name) (Wrong DECLARED_TWICE name) (Fine v)) (Wrong TYPES_DIFFER [])))
+        by_given true e = by (is_in_use s.variables name) e w
+        by_given false e = tt
 
-  choice_typed : (line : ℕ) (x : TypedExpr) (t : Stmt) (b : Bool) → is_condition x.of_type ≡ b → IsExpr x → IsTyped slots t
-      → WhereFine (IsTyped slots) (cond b (Fine (tree.If line x.tree t nothing)) (Wrong TYPES_DIFFER []))
-  choice_typed line x t true e h g = typing.choice h e g (typing.block typing.no_more)
-  choice_typed line x t false e h g = tt
+    one_typed : (base : List ℕ) (s : Scope) → Held slots s.variables → (d : DeclaratorTree) (value : Option ExprTree) → Within (name_behind base s d)
+        → WhereGood IsStmt (declarator base s d value)
+    one_typed base s held d None w =
+        judged_good IsStmt d.line _
+        (declared_typed s d.line d.name (type_named base d.stars) None (unset d.line (length s.slots)) (λ v e g. typing.declaration g) w)
+    one_typed base s held d (Some value) w =
+        behind_good IsExpr IsStmt (expr s.variables value) _ (expr_typed s.variables held value)
+        (λ x h. judged_good IsStmt d.line _
+        (declared_typed s d.line d.name (type_named base d.stars) (Some x.of_type) (begun d.line (length s.slots) x.tree)
+        (λ v e g. typing.block (typing.one_more (typing.declaration g)
+        (typing.one_more (typing.effect (typing.assignment (typing.to_variable g) h e)) typing.no_more))) w))
 
-  word_typed : (line : ℕ) (w : PerlWord) → WhereFine (IsTyped slots) (perl_word line w)
-  word_typed line word.XsReturnYes = typing.return_yes
-  word_typed line _ = tt
+    declarators_typed : (base : List ℕ) (s : Scope) → Held s.slots s.variables → (ds : List DeclaratorTree) → Within (declarators_behind base s ds)
+        → WhereGood AllTyped (declarators base s ds)
+    declarators_typed base s held [] w = record { good = typing.no_more }
+    declarators_typed base s held (d ∷ ds) w =
+        let mid : Scope = name_behind base s d in
+        let inner : Within mid = before mid (declarators_behind base mid ds) (names_grown base mid ds) w in
+        both_good IsStmt AllTyped AllTyped (declarator base s d d.value) (declarators base mid ds) _
+        (one_typed base s (held_within s held (before s mid (name_grown base s d) inner)) d d.value inner)
+        (declarators_typed base mid ((name_grown base s d).held held) ds w) (λ x xs h g. record { good = typing.one_more h g })
 
-  registered_typed : (w : Where) (full name : List ℕ) (o : Option ℕ) → WhereFine (IsTyped slots) (registered w full name o)
-  registered_typed w full name None = tt
-  registered_typed w full name (Some i) = fine_by (IsTyped slots) w.in_boot (Fine _) _ _ typing.register
+    in_order_typed : (ts : List Stmt) → AllTyped ts → IsStmt (in_order ts)
+    in_order_typed [] h = typing.block typing.no_more
+    in_order_typed (t ∷ []) (typing.one_more h g) = h
+    in_order_typed (t ∷ u ∷ ts) h = typing.block h
 
-  perl_typed : (names : FileNames) (w : Where) (line : ℕ) (p : PerlForm) → WhereFine (IsTyped slots) (perl names w line p)
-  perl_typed names w line (form.Word v) = word_typed line v
-  perl_typed names w line (form.NewXs keeps full name) =
-      fine_unless (IsTyped slots) keeps _ _ _ (registered_typed w full name (index_of names.functions name))
-  perl_typed names w line _ = tt
+    declaration_typed : (base : List ℕ) (s : Scope) → Held s.slots s.variables → (ds : List DeclaratorTree) → Within (declarators_behind base s ds)
+        → WhereGood IsStmt (declaration base s ds)
+    declaration_typed base s held ds w =
+        behind_good AllTyped IsStmt (declarators base s ds) _ (declarators_typed base s held ds w) (λ ts h. record { good = in_order_typed ts h })
 
-  module _ (names : FileNames) (w : Where) where
+    -- ---- heads of `for`
+
+    first_typed : (s : Scope) → Held s.slots s.variables → (first : FirstTree) → Within (first_behind s first) → WhereGood IsStmt (first_part s first)
+    first_typed s held statement.NoFirst w = record { good = typing.block typing.no_more }
+    first_typed s held (statement.FirstDeclare d) w = declaration_typed d.base s held d.names w
+    first_typed s held (statement.FirstEffect e) w =
+        behind_good IsExpr IsStmt (expr s.variables e) _ (expr_typed s.variables (held_within s held w) e) (λ x h. record { good = typing.effect h })
+
+    test_is : (x : Option TypedExpr) → IsOption x → is_test (option_map (λ z. z.of_type) x) ≡ true → IsTest slots (test_of x)
+    test_is None h e = typing.no_test
+    test_is (Some x) h e = typing.test h e
+
+    each_is : (x : Option TypedExpr) → IsOption x → IsEach slots (option_map (λ z. z.tree) x)
+    each_is None h = typing.no_each
+    each_is (Some x) h = typing.each h
+
+    for_typed : (line : ℕ) (own : List Slot) (t : Stmt) (x y : Option TypedExpr) (b : Stmt) → IsStmt t → IsOption x → IsOption y → IsStmt b
+        → WhereFine IsStmt (for_loop line own t x y b)
+    for_typed line own t x y b h g i j = by (is_test (option_map (λ z. z.of_type) x)) refl
+      where
+        made : Stmt
+        made = tree.Block own (stmts_of (t ∷ tree.Loop line true (test_of x) (option_map (λ z. z.tree) y) b ∷ []))
+
+        by : (d : Bool) → is_test (option_map (λ z. z.of_type) x) ≡ d → WhereFine IsStmt (cond d (Fine made) (Wrong TYPES_DIFFER []))
+        by true e = typing.block (typing.one_more h (typing.one_more (typing.loop (test_is x g e) (each_is y i) j) typing.no_more))
+        by false e = tt
+
+    -- ---- groups of `switch`
+
+    abbrev AllGroups : List TypedGroup → Type 0
+    AllGroups gs = AreGroups slots result (groups_of gs)
+
+    switched_typed : (line : ℕ) (t : ValueType) (e : Expr) (gs : List TypedGroup) → HasType slots e t → AllGroups gs
+        → WhereFine IsStmt (switched line t e gs)
+    switched_typed line (type_of.Number kind) e gs h g = typing.switch h g
+    switched_typed line _ e gs h g = tt
+
+    -- ---- other forms
+
+    effect_typed : (line : ℕ) (x : TypedExpr) (b : Bool) → IsExpr x → IsStmt (cond b (tree.Quit line x.tree) (tree.Effect x.tree))
+    effect_typed line x true h = typing.quit h
+    effect_typed line x false h = typing.effect h
+
+    -- a statement with a condition
+    condition_typed : (x : TypedExpr) (t : Stmt) → (is_condition x.of_type ≡ true → IsStmt t)
+        → WhereFine IsStmt (conditional x t)
+    condition_typed x t h = by (is_condition x.of_type) refl
+      where
+        by : (b : Bool) → is_condition x.of_type ≡ b → WhereFine IsStmt (cond b (Fine t) (Wrong TYPES_DIFFER []))
+        by true e = h e
+        by false e = tt
+
+    end_by : (o : Option ValueType) (s : Stmt) (b : Bool) → may_return result o ≡ b → (may_return result o ≡ true → IsStmt s)
+        → WhereFine IsStmt (cond b (Fine s) (Wrong TYPES_DIFFER []))
+    end_by o s true e h = h e
+    end_by o s false e h = tt
+
+    word_typed : (line : ℕ) (w : PerlWord) → WhereFine IsStmt (perl_word line w)
+    word_typed line word.XsReturnYes = typing.return_yes
+    word_typed line _ = tt
+
+    registered_typed : (w : Where) (full name : List ℕ) (keeps : Bool) (o : Option ℕ) → WhereFine IsStmt (registered w full name keeps o)
+    registered_typed w full name keeps None = tt
+    registered_typed w full name keeps (Some i) = fine_by IsStmt w.in_boot (Fine _) _ _ typing.register
+
+    perl_typed : (names : FileNames) (w : Where) (vs : List Local) (line : ℕ) (p : PerlForm) → WhereFine IsStmt (perl names w vs line p)
+    perl_typed names w vs line (form.Word v) = word_typed line v
+    perl_typed names w vs line (form.NewXs keeps full name) = registered_typed w full name keeps (index_of names.functions name)
+    perl_typed names w vs line (form.SetIndex literal) = fine_by IsStmt w.in_boot (Fine _) _ _ typing.set_index
+    perl_typed names w vs line (form.Unused name) = fine_by IsStmt _ (Fine nothing) _ name (typing.block typing.no_more)
+    perl_typed names w vs line _ = tt
+
+    with_entry_typed : (entry : Option ℕ) (ts : List Stmt) → AllTyped ts → AllTyped (with_entry entry ts)
+    with_entry_typed None ts h = h
+    with_entry_typed (Some line) ts h = typing.one_more typing.entry h
+
+  end_typed : (w : Where) (s : Scope) → Held slots s.variables → (line : ℕ) (value : Option ExprTree)
+      → WhereGood (IsTyped slots w.result) (function_end w s line value)
+  end_typed w s held line None =
+      judged_good (IsTyped slots w.result) line _ (end_by w.result None (tree.Return line) (may_return w.result None) refl (λ e. typing.function_end e))
+  end_typed w s held line (Some value) =
+      behind_good IsExpr (IsTyped slots w.result) (expr s.variables value) _ (expr_typed s.variables held value)
+      (λ x h. judged_good (IsTyped slots w.result) line _
+      (end_by w.result (Some x.of_type) (tree.Give line x.tree) (may_return w.result (Some x.of_type)) refl (λ e. typing.gives h e)))
+
+  -- the test of a statement, in the scope before its body
+  test_typed : (s : Scope) → Held s.slots s.variables → (t : StmtTree) (e : ExprTree) → Within (scope_behind s t) → WhereGood IsExpr (expr s.variables e)
+  test_typed s held t e v = expr_typed s.variables (held_within s held (before s (scope_behind s t) (scope_grown s t) v)) e
+
+  abbrev IsTurns : ValueType → Option TypedExpr × Stmt → Type 0
+  IsTurns result p = IsOption p.0 × IsStmt result p.1
+
+  abbrev IsRest : ValueType → Option TypedExpr × (Option TypedExpr × Stmt) → Type 0
+  IsRest result p = IsOption p.0 × IsTurns result p.1
+
+  module _ (names : FileNames) where
     mutual
       unfolding stmt scope_behind
 
-      stmt_typed : (s : Scope) → Held s.slots s.variables → (t : StmtTree) → Within (scope_behind s t) → WhereGood (IsTyped slots) (stmt names w s t)
-      stmt_typed s held (statement.Block line body) v =
-          behind_good AllTyped (IsTyped slots) (stmts names w s body) _ (stmts_typed s held body v) (λ ts h. record { good = typing.block h })
-      stmt_typed s held (statement.Empty line) v = record { good = typing.block typing.no_more }
-      stmt_typed s held (statement.Declare d) v = declaration_typed s d.line d.base d.names v
-      stmt_typed s held (statement.Effect line e) v =
-          behind_good IsExpr (IsTyped slots) (expr s.variables e) _ (expr_typed s.variables (held_within s held v) e)
-          (λ x h. record { good = effect_typed line x (quits x.tree) h })
-      stmt_typed s held (statement.If line test t) v =
-          both_good IsExpr (IsTyped slots) (IsTyped slots) (expr s.variables test) (stmt names w s t) _
-          (expr_typed s.variables (held_within s held (before s (scope_behind s t) (scope_grown s t) v)) test) (stmt_typed s held t v)
-          (λ x y h g. judged_good (IsTyped slots) line _ (choice_typed line x y (is_condition x.of_type) refl h g))
-      stmt_typed s held (statement.Perl line p) v = judged_good (IsTyped slots) line _ (perl_typed names w line p)
-      -- not built yet
-      stmt_typed s held _ v = record { good = tt }
+      stmt_typed : (w : Where) (s : Scope) → Held s.slots s.variables → (t : StmtTree) → Within (scope_behind s t)
+          → WhereGood (IsStmt w.result) (stmt names w s t)
+      stmt_typed w s held (statement.Block line body) v =
+          behind_good (AllTyped w.result) (IsStmt w.result) (stmts names w s body) _ (stmts_typed w s held body v) (λ ts h. record { good = typing.block h })
+      stmt_typed w s held (statement.Empty line) v = record { good = typing.block typing.no_more }
+      stmt_typed w s held (statement.Declare d) v = declaration_typed w.result d.base s held d.names v
+      stmt_typed w s held (statement.Effect line e) v =
+          behind_good IsExpr (IsStmt w.result) (expr s.variables e) _ (expr_typed s.variables (held_within s held v) e)
+          (λ x h. record { good = effect_typed w.result line x (quits x.tree) h })
+      stmt_typed w s held (statement.If line test t) v =
+          both_good IsExpr (IsStmt w.result) (IsStmt w.result) (expr s.variables test) (stmt names w s t) _ (test_typed s held t test v)
+          (stmt_typed w s held t v)
+          (λ x y h g. judged_good (IsStmt w.result) line _
+          (condition_typed w.result x (tree.If line x.tree y nothing) (λ e. typing.choice h e g (typing.block typing.no_more))))
+      stmt_typed w s held (statement.IfElse line test t other) v =
+          let mid : Scope = scope_behind s t in
+          let inner : Within mid = before mid (scope_behind mid other) (scope_grown mid other) v in
+          both_good IsExpr (λ p. IsStmt w.result p.0 × IsStmt w.result p.1) (IsStmt w.result) (expr s.variables test) _ _ (test_typed s held t test inner)
+          (both_good (IsStmt w.result) (IsStmt w.result) (λ p. IsStmt w.result p.0 × IsStmt w.result p.1) (stmt names w s t) (stmt names w mid other) _
+          (stmt_typed w s held t inner) (stmt_typed w mid ((scope_grown s t).held held) other v) (λ a b h g. record { good = (h, g) }))
+          (λ x p h g. judged_good (IsStmt w.result) line _
+          (condition_typed w.result x (tree.If line x.tree p.0 p.1) (λ e. typing.choice h e g.0 g.1)))
+      stmt_typed w s held (statement.While line test t) v =
+          both_good IsExpr (IsStmt w.result) (IsStmt w.result) (expr s.variables test) (stmt names (in_turn w) s t) _ (test_typed s held t test v)
+          (stmt_typed (in_turn w) s held t v)
+          (λ x y h g. judged_good (IsStmt w.result) line _
+          (condition_typed w.result x (tree.Loop line true (tree.When x.tree) None y) (λ e. typing.loop (typing.test h e) typing.no_each g)))
+      stmt_typed w s held (statement.DoWhile line t test) v =
+          let mid : Scope = scope_behind s t in
+          both_good (IsStmt w.result) IsExpr (IsStmt w.result) (stmt names (in_turn w) s t) (expr mid.variables test) _ (stmt_typed (in_turn w) s held t v)
+          (expr_typed mid.variables (held_within mid ((scope_grown s t).held held) v) test)
+          (λ y x g h. judged_good (IsStmt w.result) line _
+          (condition_typed w.result x (tree.Loop line false (tree.When x.tree) None y) (λ e. typing.loop (typing.test h e) typing.no_each g)))
+      stmt_typed w s held (statement.Break line) v =
+          judged_good (IsStmt w.result) line _
+          (fine_by (IsStmt w.result) (w.in_loop || w.in_switch) (Fine (tree.Break line)) WORD_NOT_ALLOWED _ typing.break_out)
+      stmt_typed w s held (statement.Continue line) v =
+          judged_good (IsStmt w.result) line _ (fine_by (IsStmt w.result) w.in_loop (Fine (tree.Continue line)) WORD_NOT_ALLOWED _ typing.next_turn)
+      stmt_typed w s held (statement.Return line value) v = end_typed w s (held_within s held v) line value
+      stmt_typed w s held (statement.Perl line p) v = judged_good (IsStmt w.result) line _ (perl_typed w.result names w s.variables line p)
+      stmt_typed w s held (statement.For line head t) v =
+          let inner : Scope = first_behind s head.first in
+          let after : Scope = scope_behind inner t in
+          let mid : Within inner = before inner after (scope_grown inner t) v in
+          let kept : Held inner.slots inner.variables = (first_grown s head.first).held held in
+          let known : Held slots inner.variables = held_within inner kept mid in
+          both_good (IsStmt w.result) (IsRest w.result) (IsStmt w.result) (first_part s head.first) _ _ (first_typed w.result s held head.first mid)
+          (both_good IsOption (IsTurns w.result) (IsRest w.result) (option_expr inner.variables head.test) _ _ (option_typed inner.variables known head.test)
+          (both_good IsOption (IsStmt w.result) (IsTurns w.result) (option_expr inner.variables head.step) (stmt names (in_turn w) inner t) _
+          (option_typed inner.variables known head.step) (stmt_typed (in_turn w) inner kept t v) (λ a b h g. record { good = (h, g) }))
+          (λ a p h g. record { good = (h, g) }))
+          (λ a p h g. judged_good (IsStmt w.result) line _ (for_typed w.result line (declared_in s after) a p.0 p.1.0 p.1.1 h g.0 g.1.0 g.1.1))
+      stmt_typed w s held (statement.Switch line e all) v =
+          both_good IsExpr (AllGroups w.result) (IsStmt w.result) (expr s.variables e) (groups names (in_group w) s all) _
+          (expr_typed s.variables (held_within s held (before s (groups_behind s all) (groups_grown s all) v)) e) (groups_typed (in_group w) s held all v)
+          (λ x gs h g. judged_good (IsStmt w.result) line _ (switched_typed w.result line x.of_type x.tree gs h g))
 
-      stmts_typed : (s : Scope) → Held s.slots s.variables → (all : StmtTrees) → Within (scopes_behind s all) → WhereGood AllTyped (stmts names w s all)
-      stmts_typed s held statement.NoStmts v = record { good = typing.no_more }
-      stmts_typed s held (statement.MoreStmts t rest) v =
-          both_good (IsTyped slots) AllTyped AllTyped (stmt names w s t) (stmts names w (scope_behind s t) rest) _
-          (stmt_typed s held t (before (scope_behind s t) (scopes_behind (scope_behind s t) rest) (scopes_grown (scope_behind s t) rest) v))
-          (stmts_typed (scope_behind s t) ((scope_grown s t).held held) rest v) (λ x xs h g. record { good = typing.one_more h g })
+      stmts_typed : (w : Where) (s : Scope) → Held s.slots s.variables → (all : StmtTrees) → Within (scopes_behind s all)
+          → WhereGood (AllTyped w.result) (stmts names w s all)
+      stmts_typed w s held statement.NoStmts v = record { good = typing.no_more }
+      stmts_typed w s held (statement.MoreStmts t rest) v =
+          both_good (IsStmt w.result) (AllTyped w.result) (AllTyped w.result) (stmt names w s t) (stmts names w (scope_behind s t) rest) _
+          (stmt_typed w s held t (before (scope_behind s t) (scopes_behind (scope_behind s t) rest) (scopes_grown (scope_behind s t) rest) v))
+          (stmts_typed w (scope_behind s t) ((scope_grown s t).held held) rest v) (λ x xs h g. record { good = typing.one_more h g })
 
-  with_entry_typed : (entry : Option ℕ) (ts : List Stmt) → AreTyped slots (stmts_of ts) → AreTyped slots (stmts_of (with_entry entry ts))
-  with_entry_typed None ts h = h
-  with_entry_typed (Some line) ts h = typing.one_more typing.entry h
+      groups_typed : (w : Where) (s : Scope) → Held s.slots s.variables → (all : GroupTrees) → Within (groups_behind s all)
+          → WhereGood (AllGroups w.result) (groups names w s all)
+      groups_typed w s held statement.NoGroups v = record { good = typing.no_group }
+      groups_typed w s held (statement.MoreGroups line ls body rest) v =
+          let mid : Scope = scopes_behind s body in
+          let inner : Within mid = before mid (groups_behind mid rest) (groups_grown mid rest) v in
+          both_good (λ g. AllTyped w.result g.body) (AllGroups w.result) (AllGroups w.result) _ (groups names w mid rest) _
+          (both_good (λ ns. Unit {0}) (AllTyped w.result) (λ g. AllTyped w.result g.body) (labels s.variables ls) (stmts names w s body) _
+          (anything (labels s.variables ls)) (stmts_typed w s held body inner) (λ ns ts h g. record { good = g }))
+          (groups_typed w mid ((scopes_grown s body).held held) rest v) (λ x xs h g. record { good = typing.one_group h g })
 
 -- ---- functions
 
@@ -260,18 +422,28 @@ nothing_held : Held [] []
 unfolding variable_of
 nothing_held name z e = absurd cc
 
+-- an XS function gives no value
+void_result : (name : List ℕ) (slots : List Slot) (t : Stmt) → IsTyped slots type_of.Void t → IsTyped slots (result_of (sort_of (is_boot_name name))) t
+void_result name slots t h = by (is_boot_name name)
+  where
+    by : (b : Bool) → IsTyped slots (result_of (sort_of b)) t
+    by true = h
+    by false = h
+
 function_typed : (names : FileNames) (x : XsFunTree) (ts : List Stmt) → stmts names (where_in x.name) beginning (statements_of x) ≡ Good ts
-    → IsTyped (function_of x ts).slots (function_of x ts).body
+    → IsTyped (function_of x ts).slots (result_of (function_of x ts).sort) (function_of x ts).body
 function_typed names x ts e =
     let slots : List Slot = (scopes_behind beginning (statements_of x)).slots in
-    let h : WhereGood (AllTyped slots) (Good ts) =
-    subst (WhereGood (AllTyped slots)) e (stmts_typed slots names (where_in x.name) beginning nothing_held (statements_of x) (λ i z e. e)) in
-    typing.block (with_entry_typed slots (entry_of x.body) ts h.good)
+    let h : WhereGood (AllTyped slots type_of.Void) (Good ts) =
+    subst (WhereGood (AllTyped slots type_of.Void)) e (stmts_typed slots names (where_in x.name) beginning nothing_held (statements_of x) (λ i z e. e)) in
+    void_result x.name slots (tree.Block (declared_in beginning (scopes_behind beginning (statements_of x))) (stmts_of (with_entry (entry_of x.body) ts)))
+    (typing.block (with_entry_typed slots type_of.Void (entry_of x.body) ts h.good))
 
 types_of_item : (t : FileTree) (c : Code) (i : ℕ) (f : Function) → typed_of t ≡ Ok c → slice_get c.functions i ≡ Some f
-    → OfItem (λ x g. IsTyped g.slots g.body) t.items i f
-types_of_item = each_function (λ x g. IsTyped g.slots g.body) function_typed
+    → OfItem (λ x g. IsTyped g.slots (result_of g.sort) g.body) t.items i f
+types_of_item = each_function (λ x g. IsTyped g.slots (result_of g.sort) g.body) function_typed
 
 -- Each function of a file's code is typed.
-pub types_of_forms : (t : FileTree) (c : Code) (i : ℕ) (f : Function) → typed_of t ≡ Ok c → slice_get c.functions i ≡ Some f → IsTyped f.slots f.body
+pub types_of_forms : (t : FileTree) (c : Code) (i : ℕ) (f : Function) → typed_of t ≡ Ok c → slice_get c.functions i ≡ Some f
+    → IsTyped f.slots (result_of f.sort) f.body
 types_of_forms t c i f good g = (types_of_item t c i f good g).1.1

@@ -9,9 +9,9 @@ use Rattle.xs_base.specs.declared.fault.Refuse.TheVariants as refuse
 use Rattle.xs_ctree.specs.declared.typed.Typed.{Typed}
 use Rattle.xs_ctree.specs.Growth.{Keeps}
 use Rattle.xs_ctree.proofs.Additions.{keeps_on}
-use Rattle.xs_ccheck.specs.Checked.{Checked, Good, Bad, behind, both, is_before, is_line_before, lesser, more}
-use Rattle.xs_ccheck.specs.Joining.{TakesUp, first_of, joined, settled}
-use Rattle.xs_ccheck.specs.Resolving.{Refuses, Resolved, Resolves}
+use Rattle.xs_ccheck.specs.Checked.{Checked, Good, Bad, both, is_before, lesser, more}
+use Rattle.xs_ccheck.specs.Joining.{TakesUp, joined, settled}
+use Rattle.xs_ccheck.specs.Resolving.{Refuses, Resolves}
 
 -- ---- what a call says of what it checks, the nodes aside
 

@@ -1,7 +1,7 @@
 -- What the definition tells of each form is right: one entry for a form.
 use Rattle.std.proofs.Common.{◌≡◌, ℕ, ◌+◌, Bool, true, false, cond, List, [], ◌∷◌, map, length, codes, Option, Some, None, refl, sym, ap, ap₂, ◌∙◌, subst}
-use Rattle.std.specs.Prelude.{◌&&◌, nat_eq, not}
-use Rattle.std.specs.Option.{is_none, is_some}
+use Rattle.std.specs.Prelude.{◌&&◌, ◌||◌, nat_eq, not}
+use Rattle.std.specs.Option.{is_some, option_map}
 use Rattle.std.specs.Str.{bytes_eq}
 use Rattle.std.proofs.lemmas.List.{length-map}
 use Rattle.xs_base.specs.declared.fault_codes.TheConstants.{TYPES_DIFFER, WRONG_NUMBER_OF_ARGUMENTS}
@@ -9,7 +9,8 @@ use Rattle.xs_cinput.specs.declared.tree.BinaryOp.TheVariants as c
 use Rattle.xs_cexpr.specs.ExpressionTree as syntax
 use Rattle.xs_cexpr.specs.ExpressionTree.{ExprTree, ExprTrees, PlaceTree, VarPlace, StPlace}
 use Rattle.xs_cstmt.specs.StatementTree as statement
-use Rattle.xs_cstmt.specs.StatementTree.{DeclaratorTree, StmtTree, StmtTrees}
+use Rattle.xs_cstmt.specs.StatementTree.{DeclaratorTree, FirstTree, StmtTree, StmtTrees, GroupTrees}
+use Rattle.xs_cstmt.specs.declared.tree.Label.{Label}
 use Rattle.xs_csyn.specs.declared.tree.Define.{Define}
 use Rattle.xs_csyn.specs.FileTree.{XsFunTree, ItemTree, XsFunItem, FileTree}
 use Rattle.xs_csyn.specs.Grammar.{line_of, line_of_place}
@@ -18,18 +19,18 @@ use Rattle.xs_perlapi.specs.Table.{RowCall, row_named}
 use Rattle.xs_ctree.specs.declared.value_type.Slot.{Slot}
 use Rattle.xs_ctree.specs.declared.value_type.ValueType.{ValueType}
 use Rattle.xs_ctree.specs.declared.value_type.ValueType.TheVariants as type_of
-use Rattle.xs_ctree.specs.TypedTree.{Expr}
+use Rattle.xs_ctree.specs.TypedTree.{Expr, Stmt, Return, Give}
 use Rattle.xs_ccheck.specs.declared.names.Where.{Where}
 use Rattle.xs_ccheck.specs.Checked.{Checked, Good, Bad, behind, Judged, Fine, Wrong, judged, unbuilt}
-use Rattle.xs_ccheck.specs.ExprTyping.{TypedExpr, TypedTarget, all_fit, assigned, called, cast, expr, exprs, is_cv, item_place, name_meant, operated, place_in, row_called, row_judged, text_in, typed, usage, usage_of, usage_word, variable_place}
+use Rattle.xs_ccheck.specs.ExprTyping.{TypedExpr, TypedTarget, all_fit, assigned, called, cast, expr, exprs, is_cv, item_place, name_meant, operated, option_expr, place_in, row_called, row_judged, text_in, typed, usage, usage_of, usage_word, variable_place}
 use Rattle.xs_ccheck.specs.FileTyping.{behind_entry, code_meant, defines, entry_of, function, functions, is_earlier, item, names_of, where_in}
 use Rattle.xs_ccheck.specs.FormTypes.{call_type, expr_rule, expr_type, expr_types, fit, item_type, name_type, place_rule, set_type, type_by, usage_type, variable_type}
-use Rattle.xs_ccheck.specs.Scopes.{Local, Scope, beginning, scope_behind, variable_of}
-use Rattle.xs_ccheck.specs.StmtTyping.{FileNames, declaration, declarator, declared, index_of, stmt, stmts}
+use Rattle.xs_ccheck.specs.Scopes.{Local, Scope, beginning, first_behind, name_behind, scope_behind, scopes_behind, variable_of}
+use Rattle.xs_ccheck.specs.StmtTyping.{FileNames, TypedGroup, begun, conditional, declarator, declarators, declared, first_part, function_end, groups, in_group, in_turn, index_of, is_test, label_number, labels, line_of_label, may_return, stated, stmt, stmts, switched, unset}
 use Rattle.xs_ccheck.specs.TypeNames.{type_named}
-use Rattle.xs_ccheck.specs.ValueTypes.{is_condition, is_operand, of_cast, of_two, result_type}
-use Rattle.xs_ccheck.specs.FaultSet.{Node, AFile, TheDefines, TheItems, ADefine, AnItem, AStmt, ADeclarator, AnExpr, APlace, parts, own, refused, refused_unless, not_built, is_built, exprs_at, stmts_at, declarators_at, defines_at, items_at}
-use Rattle.xs_ccheck.proofs.LeastFaults.{OwnSays, Says, SaysAll, says_leaf, says_more, says_node, says_none, says_one, says_two}
+use Rattle.xs_ccheck.specs.ValueTypes.{is_condition, is_number, is_operand, of_cast, of_two, result_type}
+use Rattle.xs_ccheck.specs.FaultSet.{Node, AFile, TheDefines, TheItems, ADefine, AnItem, AStmt, TheStmts, ADeclarator, AFirst, TheGroups, AGroup, TheLabels, ALabel, AnOption, AnExpr, APlace, parts, own, refused, refused_unless, no_condition, exprs_at, value_at, stmts_at, declarators_at, labels_at, groups_at, defines_at, items_at}
+use Rattle.xs_ccheck.proofs.LeastFaults.{OwnSays, Says, SaysAll, says_leaf, says_more, says_four, says_node, says_none, says_one, says_three, says_two}
 
 -- ---- the type that a rule of the definition gives
 
@@ -181,11 +182,6 @@ module _ (vs : List Local) where
 
 -- ---- declarations
 
--- a node that is its one part
-says_as : {A : Type 0} (n m : Node) (P : A → Type 0) (r : Checked A) → parts n ≡ m ∷ [] → own n ≡ None → Says m P r → Says n P r
-says_as n m P (Good a) e o h = says_one n m P P (Good a) (λ b. Good b) e h (λ b t. (o, t))
-says_as n m P (Bad f) e o h = says_one n m P P (Bad f) (λ b. Good b) e h (λ b t. (o, t))
-
 -- a rule whose value is nothing to the law
 rule_own : {A : Type 0} (n : Node) (line : ℕ) (j : Judged A) → own n ≡ refused line j → OwnSays n Anything (judged line j)
 rule_own n line (Fine a) o = (o, tt)
@@ -203,46 +199,128 @@ against_own : {A : Type 0} (n : Node) (line : ℕ) (b : Bool) (x : A) (code : �
 against_own n line true x code word o = o
 against_own n line false x code word o = (o, tt)
 
-declarator_says : (scope : Scope) (base : List ℕ) (d : DeclaratorTree)
-    → Says (ADeclarator scope base d) Anything (judged d.line (declared scope d.line d.name (type_named base d.stars)))
-declarator_says scope base d = says_leaf _ _ _ refl (rule_own (ADeclarator scope base d) d.line _ refl)
+stated_own : (n : Node) (line : ℕ) (f : ValueType → Stmt) (j : Judged ValueType) → own n ≡ refused line j → OwnSays n Anything (judged line (stated f j))
+stated_own n line f (Fine t) o = (o, tt)
+stated_own n line f (Wrong code word) o = o
 
-one_says : (n : Node) (line : ℕ) (scope : Scope) (base : List ℕ) (d : DeclaratorTree) (value : Option ExprTree)
-    → parts n ≡ cond (is_none value) (ADeclarator scope base d ∷ []) [] → own n ≡ cond (is_none value) None (not_built line)
-    → Says n Anything (declarator line scope base d value)
-one_says n line scope base d None p o = says_as n _ Anything _ p o (declarator_says scope base d)
-one_says n line scope base d (Some value) p o = says_leaf n Anything _ p o
+declarator_says : (n : Node) (base : List ℕ) (scope : Scope) (d : DeclaratorTree) (value : Option ExprTree) → parts n ≡ value_at scope.variables value
+    → own n ≡ refused d.line (declared scope d.name (type_named base d.stars) (option_map (expr_type scope.variables) value))
+    → Says n Anything (declarator base scope d value)
+declarator_says n base scope d None p o = says_leaf n Anything _ p (stated_own n d.line (unset d.line (length scope.slots)) _ o)
+declarator_says n base scope d (Some value) p o =
+    let named : Option ValueType = type_named base d.stars in
+    says_one n _ _ Anything _ _ p (expr_says scope.variables value)
+    (λ x e. stated_own n d.line (begun d.line (length scope.slots) x.tree) (declared scope d.name named (Some x.of_type))
+    (o ∙ ap (λ a. refused d.line (declared scope d.name named (Some a))) (sym e)))
 
-declaration_says : (n : Node) (line : ℕ) (scope : Scope) (base : List ℕ) (ds : List DeclaratorTree)
-    → parts n ≡ cond (is_built ds) (declarators_at scope base ds) [] → own n ≡ cond (is_built ds) None (not_built line)
-    → Says n Anything (declaration line scope base ds)
-declaration_says n line scope base [] p o = says_leaf n Anything _ p o
-declaration_says n line scope base (d ∷ []) p o = one_says n line scope base d d.value p o
-declaration_says n line scope base (d ∷ e ∷ ds) p o = says_leaf n Anything _ p o
+declarators_say : (base : List ℕ) (scope : Scope) (ds : List DeclaratorTree)
+    → SaysAll (declarators_at scope base ds) Anything (declarators base scope ds)
+declarators_say base scope [] = says_none _ [] tt
+declarators_say base scope (d ∷ ds) =
+    says_more _ _ Anything Anything _ (λ t ts. t ∷ ts) _ _ (λ t ts u v. tt) (declarator_says (ADeclarator scope base d) base scope d d.value refl refl)
+    (declarators_say base (name_behind base scope d) ds)
+
+-- ---- heads of `for` and groups of `switch`
+
+-- a node of parts that has no rule of its own
+says_list : {A : Type 0} (n : Node) (r : Checked A) → own n ≡ None → SaysAll (parts n) Anything r → Says n Anything r
+says_list n (Good a) o h = says_node n Anything Anything (Good a) (λ b. Good b) h (λ b t. (o, tt))
+says_list n (Bad f) o h = says_node n Anything Anything (Bad f) (λ b. Good b) h (λ b t. (o, tt))
+
+abbrev HasOptionType : List Local → Option ExprTree → Option TypedExpr → Type 0
+HasOptionType vs e o = option_map (λ x. x.of_type) o ≡ option_map (expr_type vs) e
+
+option_says : (vs : List Local) (e : Option ExprTree) → Says (AnOption vs e) (HasOptionType vs e) (option_expr vs e)
+option_says vs None = says_leaf _ _ _ refl (refl, refl)
+option_says vs (Some e) = says_one _ _ _ _ _ _ refl (expr_says vs e) (λ x t. (refl, ap Some t))
+
+first_says : (scope : Scope) (first : FirstTree) → Says (AFirst scope first) Anything (first_part scope first)
+first_says scope statement.NoFirst = says_leaf _ _ _ refl (refl, tt)
+first_says scope (statement.FirstDeclare d) = says_node _ Anything _ _ _ (declarators_say d.base scope d.names) (λ ts t. (refl, tt))
+first_says scope (statement.FirstEffect e) = says_one _ _ _ _ _ _ refl (expr_says scope.variables e) (λ x t. (refl, tt))
+
+labels_say : (vs : List Local) (all : List Label) → SaysAll (labels_at vs all) Anything (labels vs all)
+labels_say vs [] = says_none _ [] tt
+labels_say vs (l ∷ rest) =
+    says_more (ALabel vs l) _ Anything Anything _ (λ n ns. n ∷ ns) _ _ (λ n ns u v. tt)
+    (says_leaf _ _ _ refl (rule_own (ALabel vs l) (line_of_label l) (label_number vs l) refl)) (labels_say vs rest)
+
+switched_own : (n : Node) (line : ℕ) (t : ValueType) (e : Expr) (gs : List TypedGroup) → own n ≡ refused_unless line (is_number t) TYPES_DIFFER []
+    → OwnSays n Anything (judged line (switched line t e gs))
+switched_own n line (type_of.Number kind) e gs o = (o, tt)
+switched_own n line _ e gs o = o
 
 -- ---- statements
 
-module _ (names : FileNames) (w : Where) where
+-- a condition whose type has no truth
+condition_own : (n : Node) (line : ℕ) (scope : Scope) (test : ExprTree) (x : TypedExpr) (s : Stmt) → own n ≡ no_condition line scope test
+    → HasType scope.variables test x → OwnSays n Anything (judged line (conditional x s))
+condition_own n line scope test x s o e =
+    test_own n line (is_condition x.of_type) s TYPES_DIFFER [] (o ∙ ap (λ a. refused_unless line (is_condition a) TYPES_DIFFER []) (sym e))
+
+end_says : (n : Node) (w : Where) (scope : Scope) (line : ℕ) (value : Option ExprTree) → parts n ≡ value_at scope.variables value
+    → own n ≡ refused_unless line (may_return w.result (option_map (expr_type scope.variables) value)) TYPES_DIFFER []
+    → Says n Anything (function_end w scope line value)
+end_says n w scope line None p o = says_leaf n Anything _ p (test_own n line (may_return w.result None) (Return line) TYPES_DIFFER [] o)
+end_says n w scope line (Some value) p o =
+    says_one n _ _ Anything _ _ p (expr_says scope.variables value)
+    (λ x e. test_own n line (may_return w.result (Some x.of_type)) (Give line x.tree) TYPES_DIFFER []
+    (o ∙ ap (λ a. refused_unless line (may_return w.result (Some a)) TYPES_DIFFER []) (sym e)))
+
+module _ (names : FileNames) where
   mutual
     unfolding stmt
 
-    stmt_says : (scope : Scope) (s : StmtTree) → Says (AStmt names w scope s) Anything (stmt names w scope s)
-    stmt_says scope (statement.Block line body) = says_node _ Anything _ _ _ (stmts_say scope body) (λ ts t. (refl, tt))
-    stmt_says scope (statement.Empty line) = says_leaf _ _ _ refl (refl, tt)
-    stmt_says scope (statement.Declare d) = declaration_says (AStmt names w scope (statement.Declare d)) d.line scope d.base d.names refl refl
-    stmt_says scope (statement.Effect line e) = says_one _ _ _ _ _ _ refl (expr_says scope.variables e) (λ x t. (refl, tt))
-    stmt_says scope (statement.If line test s) =
-        says_two _ _ _ _ Anything _ _ _ _ refl (expr_says scope.variables test) (stmt_says scope s)
-        (λ x t e u. test_own (AStmt names w scope (statement.If line test s)) line (is_condition x.of_type) _ _ _
-        (ap (λ a. refused_unless line (is_condition a) TYPES_DIFFER []) (sym e)))
-    stmt_says scope (statement.Perl line form) = says_leaf _ _ _ refl (rule_own (AStmt names w scope (statement.Perl line form)) line _ refl)
-    -- not built yet
-    stmt_says scope _ = says_leaf _ _ _ refl refl
+    stmt_says : (w : Where) (scope : Scope) (s : StmtTree) → Says (AStmt names w scope s) Anything (stmt names w scope s)
+    stmt_says w scope (statement.Block line body) = says_node _ Anything _ _ _ (stmts_say w scope body) (λ ts t. (refl, tt))
+    stmt_says w scope (statement.Empty line) = says_leaf _ _ _ refl (refl, tt)
+    stmt_says w scope (statement.Declare d) = says_node _ Anything _ _ _ (declarators_say d.base scope d.names) (λ ts t. (refl, tt))
+    stmt_says w scope (statement.Effect line e) = says_one _ _ _ _ _ _ refl (expr_says scope.variables e) (λ x t. (refl, tt))
+    stmt_says w scope (statement.If line test s) =
+        says_two _ _ _ _ Anything _ _ _ _ refl (expr_says scope.variables test) (stmt_says w scope s)
+        (λ x t e u. condition_own (AStmt names w scope (statement.If line test s)) line scope test x _ refl e)
+    stmt_says w scope (statement.IfElse line test s other) =
+        says_three _ _ _ _ _ Anything Anything _ _ _ _ _ refl (expr_says scope.variables test) (stmt_says w scope s)
+        (stmt_says w (scope_behind scope s) other)
+        (λ x t u e v z. condition_own (AStmt names w scope (statement.IfElse line test s other)) line scope test x _ refl e)
+    stmt_says w scope (statement.While line test s) =
+        says_two _ _ _ _ Anything _ _ _ _ refl (expr_says scope.variables test) (stmt_says (in_turn w) scope s)
+        (λ x t e u. condition_own (AStmt names w scope (statement.While line test s)) line scope test x _ refl e)
+    stmt_says w scope (statement.DoWhile line s test) =
+        says_two _ _ _ Anything _ _ _ _ _ refl (stmt_says (in_turn w) scope s) (expr_says (scope_behind scope s).variables test)
+        (λ t x u e. condition_own (AStmt names w scope (statement.DoWhile line s test)) line (scope_behind scope s) test x _ refl e)
+    stmt_says w scope (statement.Break line) =
+        says_leaf _ _ _ refl (test_own (AStmt names w scope (statement.Break line)) line (w.in_loop || w.in_switch) _ _ _ refl)
+    stmt_says w scope (statement.Continue line) =
+        says_leaf _ _ _ refl (test_own (AStmt names w scope (statement.Continue line)) line w.in_loop _ _ _ refl)
+    stmt_says w scope (statement.Return line value) = end_says (AStmt names w scope (statement.Return line value)) w scope line value refl refl
+    stmt_says w scope (statement.Perl line form) =
+        says_leaf _ _ _ refl (rule_own (AStmt names w scope (statement.Perl line form)) line _ refl)
+    stmt_says w scope (statement.For line head s) =
+        let inner : Scope = first_behind scope head.first in
+        says_four _ _ _ _ _ Anything _ _ Anything Anything _ _ _ _ _ refl (first_says scope head.first) (option_says inner.variables head.test)
+        (option_says inner.variables head.step) (stmt_says (in_turn w) inner s)
+        (λ f x y t a e b c. test_own (AStmt names w scope (statement.For line head s)) line (is_test (option_map (λ z. z.of_type) x)) _ _ _
+        (ap (λ o. refused_unless line (is_test o) TYPES_DIFFER []) (sym e)))
+    stmt_says w scope (statement.Switch line e all) =
+        says_two _ _ _ _ Anything _ _ _ _ refl (expr_says scope.variables e)
+        (says_list (TheGroups names (in_group w) scope all) (groups names (in_group w) scope all) refl (groups_say (in_group w) scope all))
+        (λ x gs t u. switched_own (AStmt names w scope (statement.Switch line e all)) line x.of_type x.tree gs
+        (ap (λ a. refused_unless line (is_number a) TYPES_DIFFER []) (sym t)))
 
-    stmts_say : (scope : Scope) (all : StmtTrees) → SaysAll (stmts_at names w scope all) Anything (stmts names w scope all)
-    stmts_say scope statement.NoStmts = says_none _ [] tt
-    stmts_say scope (statement.MoreStmts s rest) =
-        says_more _ _ Anything Anything _ (λ t ts. t ∷ ts) _ _ (λ t ts u v. tt) (stmt_says scope s) (stmts_say (scope_behind scope s) rest)
+    stmts_say : (w : Where) (scope : Scope) (all : StmtTrees) → SaysAll (stmts_at names w scope all) Anything (stmts names w scope all)
+    stmts_say w scope statement.NoStmts = says_none _ [] tt
+    stmts_say w scope (statement.MoreStmts s rest) =
+        says_more _ _ Anything Anything _ (λ t ts. t ∷ ts) _ _ (λ t ts u v. tt) (stmt_says w scope s) (stmts_say w (scope_behind scope s) rest)
+
+    groups_say : (w : Where) (scope : Scope) (all : GroupTrees) → SaysAll (groups_at names w scope all) Anything (groups names w scope all)
+    groups_say w scope statement.NoGroups = says_none _ [] tt
+    groups_say w scope (statement.MoreGroups line ls body rest) =
+        says_more _ _ Anything Anything _ (λ g gs. g ∷ gs) _ _ (λ g gs u v. tt)
+        (says_two (AGroup names w scope ls body) _ _ Anything Anything Anything _ _ _ refl
+        (says_list (TheLabels scope.variables ls) (labels scope.variables ls) refl (labels_say scope.variables ls))
+        (says_list (TheStmts names w scope body) (stmts names w scope body) refl (stmts_say w scope body)) (λ ns ts u v. (refl, tt)))
+        (groups_say w (scopes_behind scope body) rest)
 
 -- ---- files
 
@@ -268,11 +346,6 @@ defines_say [] = says_none _ [] tt
 defines_say (d ∷ ds) =
     says_more (ADefine d) (defines_at ds) Anything Anything Anything (λ u us. u ∷ us) (judged d.line unbuilt) (defines ds) (λ u us s t. tt)
     (says_leaf (ADefine d) Anything _ refl refl) (defines_say ds)
-
--- a node of parts that has no rule of its own
-says_list : {A : Type 0} (n : Node) (r : Checked A) → own n ≡ None → SaysAll (parts n) Anything r → Says n Anything r
-says_list n (Good a) o h = says_node n Anything Anything (Good a) (λ b. Good b) h (λ b t. (o, tt))
-says_list n (Bad f) o h = says_node n Anything Anything (Bad f) (λ b. Good b) h (λ b t. (o, tt))
 
 -- the definition of a file is right of it
 pub file_says : (t : FileTree) → Says (AFile t) Anything (code_meant t)

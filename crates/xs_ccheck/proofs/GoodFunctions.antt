@@ -42,9 +42,10 @@ more_good (Good a) (Bad g) all e = absurd cc
 more_good (Bad f) (Good b) all e = absurd cc
 more_good (Bad f) (Bad g) all e = absurd cc
 
-code_good : {A : Type 0} (r : Checked A) (s : Checked (List Function)) (c : Code) → answer (both r s (λ ds fs. Good (record { functions = fs }))) ≡ Ok c
+code_good : {A : Type 0} (r : Checked A) (s : Checked (List Function)) (c : Code)
+    → answer (both r s (λ ds fs. Good (record { records = []; functions = fs }))) ≡ Ok c
     → s ≡ Good c.functions
-code_good (Good a) (Good b) c e = ap Good (functions_of (record { functions = b }) c e)
+code_good (Good a) (Good b) c e = ap Good (functions_of (record { records = []; functions = b }) c e)
   where
     functions_of : (d c : Code) → answer (Good d) ≡ Ok c → d.functions ≡ c.functions
     functions_of d c e = let same : d ≡ c = cc in ap (λ (z : Code). z.functions) same

@@ -3,7 +3,7 @@
 use Rattle.std.proofs.Common.{◌≡◌, ◌⊎◌, inl, inr, ℕ, zero, suc, Bool, true, false, cond, List, [], ◌∷◌, Some, None, slice_get, refl, sym, ap, ◌∙◌, subst, arith}
 use Rattle.std.proofs.lemmas.Option.{same_Some}
 use Rattle.xs_base.specs.declared.fault.Fault.{Fault}
-use Rattle.xs_ccheck.specs.Checked.{Checked, Good, Bad, behind, both, is_before, lesser}
+use Rattle.xs_ccheck.specs.Checked.{Checked, Good, Bad, behind, both, is_before, four, lesser, three}
 use Rattle.xs_ccheck.specs.FaultSet.{Node, parts, own, IsSound, sound, AreSound, no_more, one_more, IsFault, here, within, IsLeftOf, StandsBefore}
 use Rattle.xs_ccheck.proofs.FaultOrder.{before_on, before_trans, told_before, told_behind}
 
@@ -220,7 +220,7 @@ says_node {A} {B} n P Q (Good a) k h rule = by (k a) (rule a h.says.1)
     by (Good b) o = record { says = (sound h.says.0 o.0, o.1) }
     by (Bad f) o = record { says = own_first n f h.says.0 o }
 
--- ---- nodes of no part, of one and of two
+-- ---- nodes of few parts
 
 pub says_leaf : {B : Type 0} (n : Node) (Q : B → Type 0) (c : Checked B) → parts n ≡ [] → OwnSays n Q c → Says n Q c
 says_leaf n Q c e o =
@@ -231,7 +231,7 @@ pub says_one : {A B : Type 0} (n m : Node) (P : A → Type 0) (Q : B → Type 0)
     → Says m P r → ((a : A) → P a → OwnSays n Q (k a)) → Says n Q (behind r k)
 says_one n m P Q r k e h rule = says_node n P Q r k (subst (λ ns. SaysAll ns P r) (sym e) (says_alone m P r h)) rule
 
-both_behind : {A B C : Type 0} (r : Checked A) (s : Checked B) (k : A → B → Checked C)
+pub both_behind : {A B C : Type 0} (r : Checked A) (s : Checked B) (k : A → B → Checked C)
     → behind (both {C = A × B} r s (λ a b. Good (a, b))) (λ p. k p.0 p.1) ≡ both r s k
 both_behind (Good a) (Good b) k = refl
 both_behind (Good a) (Bad g) k = refl
@@ -247,3 +247,37 @@ says_two {A} {B} {C} n m1 m2 P Q R r s k e h g rule =
     (says_node n are R pairs (λ p. k p.0 p.1)
     (subst (λ ns. SaysAll ns are pairs) (sym e) (says_more m1 (m2 ∷ []) P Q are (λ a b. (a, b)) r s (λ a b p q. (p, q)) h (says_alone m2 Q s g)))
     (λ p h. rule p.0 p.1 h.0 h.1))
+
+pub says_three : {A B C D : Type 0} (n m1 m2 m3 : Node) (P : A → Type 0) (Q : B → Type 0) (R : C → Type 0) (T : D → Type 0) (r : Checked A)
+    (s : Checked B) (t : Checked C) (k : A → B → C → Checked D) → parts n ≡ m1 ∷ m2 ∷ m3 ∷ [] → Says m1 P r → Says m2 Q s → Says m3 R t
+    → ((a : A) (b : B) (c : C) → P a → Q b → R c → OwnSays n T (k a b c)) → Says n T (three r s t k)
+says_three {A} {B} {C} {D} n m1 m2 m3 P Q R T r s t k e h g i rule =
+    let pairs : Checked (B × C) = both {C = B × C} s t (λ b c. Good (b, c)) in
+    let all : Checked (A × (B × C)) = both {C = A × (B × C)} r pairs (λ a p. Good (a, p)) in
+    let two : B × C → Type 0 = λ p. Q p.0 × R p.1 in
+    let are : A × (B × C) → Type 0 = λ p. P p.0 × two p.1 in
+    subst (λ c. Says n T c) (both_behind r pairs (λ a p. k a p.0 p.1))
+    (says_node n are T all (λ p. k p.0 p.1.0 p.1.1)
+    (subst (λ ns. SaysAll ns are all) (sym e)
+    (says_more m1 (m2 ∷ m3 ∷ []) P two are (λ a p. (a, p)) r pairs (λ a p x y. (x, y)) h
+    (says_more m2 (m3 ∷ []) Q R two (λ b c. (b, c)) s t (λ b c x y. (x, y)) g (says_alone m3 R t i))))
+    (λ p x. rule p.0 p.1.0 p.1.1 x.0 x.1.0 x.1.1))
+
+pub says_four : {A B C D E : Type 0} (n m1 m2 m3 m4 : Node) (P : A → Type 0) (Q : B → Type 0) (R : C → Type 0) (S : D → Type 0) (T : E → Type 0)
+    (r : Checked A) (s : Checked B) (t : Checked C) (u : Checked D) (k : A → B → C → D → Checked E) → parts n ≡ m1 ∷ m2 ∷ m3 ∷ m4 ∷ []
+    → Says m1 P r → Says m2 Q s → Says m3 R t → Says m4 S u
+    → ((a : A) (b : B) (c : C) (d : D) → P a → Q b → R c → S d → OwnSays n T (k a b c d)) → Says n T (four r s t u k)
+says_four {A} {B} {C} {D} {E} n m1 m2 m3 m4 P Q R S T r s t u k e h g i j rule =
+    let pairs : Checked (C × D) = both {C = C × D} t u (λ c d. Good (c, d)) in
+    let triples : Checked (B × (C × D)) = three {D = B × (C × D)} s t u (λ b c d. Good (b, (c, d))) in
+    let all : Checked (A × (B × (C × D))) = both {C = A × (B × (C × D))} r triples (λ a p. Good (a, p)) in
+    let two : C × D → Type 0 = λ p. R p.0 × S p.1 in
+    let last : B × (C × D) → Type 0 = λ p. Q p.0 × two p.1 in
+    let are : A × (B × (C × D)) → Type 0 = λ p. P p.0 × last p.1 in
+    subst (λ c. Says n T c) (both_behind r triples (λ a p. k a p.0 p.1.0 p.1.1))
+    (says_node n are T all (λ p. k p.0 p.1.0 p.1.1.0 p.1.1.1)
+    (subst (λ ns. SaysAll ns are all) (sym e)
+    (says_more m1 (m2 ∷ m3 ∷ m4 ∷ []) P last are (λ a p. (a, p)) r triples (λ a p x y. (x, y)) h
+    (says_more m2 (m3 ∷ m4 ∷ []) Q two last (λ b p. (b, (p.0, p.1))) s pairs (λ b p x y. (x, y)) g
+    (says_more m3 (m4 ∷ []) R S two (λ c d. (c, d)) t u (λ c d x y. (x, y)) i (says_alone m4 S u j)))))
+    (λ p x. rule p.0 p.1.0 p.1.1.0 p.1.1.1 x.0 x.1.0 x.1.1.0 x.1.1.1))

@@ -1,27 +1,26 @@
 -- Lists of nodes while the code grows.
 use Rattle.std.proofs.Common.{◌≡◌, ℕ, ◌<◌, ◌≤◌, true, List, [], ◌∷◌, ◌++◌, map, length, Option, Some, None, Result, Ok, Err, refl, sym, ap, ap₂, ◌∙◌, subst, arith}
 use Rattle.std.specs.Prelude.{IfOk, nat_lt}
-use Rattle.std.specs.List.{list_all}
 use Rattle.std.proofs.lemmas.Bool.{and_parts, and_from, ltb-true, lt-ltb}
 use Rattle.std.proofs.lemmas.Bool.Decides.{nat_tests}
-use Rattle.std.proofs.lemmas.List.{map-append}
+use Rattle.std.proofs.lemmas.List.{map-append, map-id}
 use Rattle.std.proofs.lemmas.List.Folds.{list_all-append}
 use Rattle.std.specs.declared.alloc.Global.{Global}
 use Rattle.std.specs.declared.vec.Vec.{Vec}
 use Rattle.xs_base.specs.declared.fault.Fault.{Fault}
 use Rattle.xs_base.specs.declared.memory.Memory.{Memory}
-use Rattle.xs_csyn.specs.declared.tree.Define.{Define}
+use Rattle.xs_ctree.specs.declared.node.Group.{Group}
 use Rattle.xs_ctree.specs.declared.typed.Typed.{Typed}
 use Rattle.xs_ctree.specs.Arena.{all_below}
 use Rattle.xs_ctree.specs.Functions.{stmt_in}
-use Rattle.xs_ctree.specs.Growth.{AddsStmt, HasExpr, HasStmt, Keeps}
-use Rattle.xs_ctree.specs.TypedTree.{Stmt}
+use Rattle.xs_ctree.specs.Growth.{AddsStmt, HasStmt, Keeps, groups_in, has_stmts}
+use Rattle.xs_ctree.specs.TypedTree.{MoreGroups, Stmt, stmts_of}
 use Rattle.xs_ctree.proofs.Opening.{map_same}
 use Rattle.xs_ccheck.specs.declared.exprs.TypedNode.{TypedNode}
-use Rattle.xs_ccheck.specs.Checked.{Checked, Good, Bad, lesser, more}
-use Rattle.xs_ccheck.specs.FileTyping.{defines}
+use Rattle.xs_ccheck.specs.Checked.{Checked, Good, Bad, more}
 use Rattle.xs_ccheck.specs.Joining.{first_of, settled}
-use Rattle.xs_ccheck.specs.Resolving.{GivesNone, HasTyped, HaveStmts, HaveTyped, Stand, all_stmts_in, nodes_of, typed_in}
+use Rattle.xs_ccheck.specs.Resolving.{GivesNone, HasGroup, HasLabel, HasTyped, HaveGroups, HaveLabels, HaveStmts, HaveTyped, Stand, all_stmts_in, group_in, label_in, nodes_of, typed_in}
+use Rattle.xs_ccheck.specs.StmtTyping.{groups_of, typed_group}
 use Rattle.xs_ccheck.proofs.Collecting.{Lasts, on, on_two}
 
 below_more : (m n : ℕ) (xs : List ℕ) → m ≤ n → all_below m xs ≡ true → all_below n xs ≡ true
@@ -61,6 +60,43 @@ typed_last = record {
   still = λ old new xs k h. below_more (length old.exprs.items) (length new.exprs.items) (nodes_of xs) k.exprs h;
   same = λ old new xs k h. typed_same old new k xs h;
 }
+
+-- ---- labels and groups
+
+pub labels_last : Lasts label_in HasLabel HaveLabels
+labels_last = record {
+  last = λ t xs x h g. tt;
+  still = λ old new xs k h. tt;
+  same = λ old new xs k h. refl;
+}
+
+group_same : (old new : Typed) → Keeps old new → (g : Group) → HasGroup old g → group_in new g ≡ group_in old g
+group_same old new k g h = ap (typed_group (map (label_in new) g.labels.items)) (stmts_last.same old new g.body.items k h)
+
+groups_still : (old new : Typed) → Keeps old new → (gs : List Group) → HaveGroups old gs → HaveGroups new gs
+groups_still old new k [] h = refl
+groups_still old new k (g ∷ gs) h =
+    let d = and_parts _ _ h in
+    and_from _ _ (stmts_last.still old new g.body.items k d.0) (groups_still old new k gs d.1)
+
+groups_same : (old new : Typed) → Keeps old new → (gs : List Group) → HaveGroups old gs → map (group_in new) gs ≡ map (group_in old) gs
+groups_same old new k [] h = refl
+groups_same old new k (g ∷ gs) h =
+    let d = and_parts _ _ h in
+    ap₂ (λ y ys. y ∷ ys) (group_same old new k g d.0) (groups_same old new k gs d.1)
+
+pub groups_last : Lasts group_in HasGroup HaveGroups
+groups_last = record {
+  last = λ t xs x h g. list_all-append (has_stmts t) xs (x ∷ []) ∙ and_from _ _ h (and_from _ _ g refl);
+  still = λ old new xs k h. groups_still old new k xs h;
+  same = λ old new xs k h. groups_same old new k xs h;
+}
+
+-- the groups of a switch are those of its parts
+pub groups_are : (t : Typed) (gs : List Group) → groups_of (map (group_in t) gs) ≡ groups_in t gs
+groups_are t [] = refl
+groups_are t (g ∷ gs) =
+    ap₂ (λ ns all. MoreGroups ns (stmts_of (map (stmt_in t) g.body.items)) all) (map-id g.labels.items) (groups_are t gs)
 
 -- a statement in front of others
 pub stood : (old new : Typed) (first : ℕ) (body : List ℕ) (s : Stmt) (r : Result (Vec ℕ Global) Memory) → AddsStmt old s first new → HaveStmts old body

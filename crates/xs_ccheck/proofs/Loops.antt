@@ -1,10 +1,7 @@
 -- The loops over arguments, statements and functions, and nodes of two parts.
-use Rattle.std.proofs.Common.{◌≡◌, ℕ, cond, zero, suc, ◌+◌, ◌<◌, ◌≤◌, true, List, [], ◌∷◌, ◌++◌, map, length, drop, Option, Some, None, Result, Ok, Err, refl, sym, ap, ap₂, ◌∙◌, subst, arith, append-nil, get_or}
-use Rattle.std.specs.Prelude.{nat_lt}
+use Rattle.std.proofs.Common.{◌≡◌, ℕ, cond, ◌+◌, ◌<◌, ◌≤◌, true, List, [], ◌∷◌, map, length, drop, Option, Some, None, Result, Ok, Err, refl, sym, ap, ap₂, ◌∙◌, subst, append-nil, get_or}
 use Rattle.std.proofs.lemmas.Bool.{ltb-true}
 use Rattle.std.proofs.lemmas.List.{drop_more, drop_all}
-use Rattle.std.specs.declared.alloc.Global.{Global}
-use Rattle.std.specs.declared.vec.Vec.{Vec}
 use Rattle.xs_base.specs.declared.fault.Fault.{Fault}
 use Rattle.xs_base.specs.declared.fault.Refuse.{Refuse}
 use Rattle.xs_base.specs.declared.fault.Refuse.TheVariants as refuse
@@ -20,18 +17,20 @@ use Rattle.xs_cinput.specs.declared.tree.BinaryOp.TheVariants.{On}
 use Rattle.xs_cexpr.specs.declared.tree.Expr.{Expr}
 use Rattle.xs_cexpr.specs.ExpressionTree.{ExprTree, PlaceTree, Set, Two, exprs_of}
 use Rattle.xs_cexpr.specs.ExpressionViews.{expr_tree}
+use Rattle.xs_cstmt.specs.declared.tree.Declarator.{Declarator}
+use Rattle.xs_cstmt.specs.declared.tree.Group.{Group}
+use Rattle.xs_cstmt.specs.declared.tree.Label.{Label}
 use Rattle.xs_cstmt.specs.declared.tree.Stmt.{Stmt}
-use Rattle.xs_cstmt.specs.StatementTree.{stmts_of}
-use Rattle.xs_cstmt.specs.StatementViews.{stmt_tree}
+use Rattle.xs_cstmt.specs.StatementTree.{groups_of, stmts_of}
+use Rattle.xs_cstmt.specs.StatementViews.{declarator_tree, group_tree, stmt_tree}
 use Rattle.xs_csyn.specs.declared.tree.FileItem.{FileItem}
-use Rattle.xs_csyn.specs.FileTree.{ItemTree}
 use Rattle.xs_csyn.specs.FileViews.{item_tree}
 use Rattle.xs_ctree.specs.declared.node.TargetNode.{TargetNode}
 use Rattle.xs_ctree.specs.declared.node.TargetNode.TheVariants as target_node
 use Rattle.xs_ctree.specs.declared.typed.Typed.{Typed}
 use Rattle.xs_ctree.specs.Arena.{target_fits, target_from}
-use Rattle.xs_ctree.specs.Functions.{expr_in, functions_in, stmt_in}
-use Rattle.xs_ctree.specs.Growth.{AddsExpr, HasStmt, Keeps}
+use Rattle.xs_ctree.specs.Functions.{expr_in, functions_in, records_in}
+use Rattle.xs_ctree.specs.Growth.{AddsExpr, Keeps}
 use Rattle.xs_ctree.specs.TypedTree.{Api, ToItem}
 use Rattle.xs_ctree.specs.TypedTree as tree
 use Rattle.xs_ctree.proofs.Additions.{keeps_on}
@@ -41,10 +40,10 @@ use Rattle.xs_ccheck.specs.declared.names.Where.{Where}
 use Rattle.xs_ccheck.specs.Checked.{Checked, Good, Bad, both, Fine, Wrong, judged, more}
 use Rattle.xs_ccheck.specs.ExprTyping.{TypedExpr, all_fit, as_typed, assigned, expr, exprs, operated, place_in, row_called, row_judged}
 use Rattle.xs_ccheck.specs.FileTyping.{defines, functions, item}
-use Rattle.xs_ccheck.specs.Joining.{Notes, TakesUp, first_of, joined, settled}
-use Rattle.xs_ccheck.specs.Resolving.{GivesExpr, GivesFunction, GivesFunctions, GivesTarget, HasTarget, HasTyped, IsFunction, all_typed_in, nodes_of, Resolved, Resolves, UnlessMemory, target_in, typed_in}
-use Rattle.xs_ccheck.specs.Scopes.{Local, Scope, scope_behind, scopes_behind}
-use Rattle.xs_ccheck.specs.StmtTyping.{FileNames, stmt, stmts}
+use Rattle.xs_ccheck.specs.Joining.{Notes, TakesUp, joined, settled}
+use Rattle.xs_ccheck.specs.Resolving.{GivesExpr, GivesFunction, GivesFunctions, GivesTarget, HasTarget, HasTyped, all_typed_in, nodes_of, Resolved, UnlessMemory, target_in, typed_in}
+use Rattle.xs_ccheck.specs.Scopes.{Local, Scope, declarators_behind, groups_behind, name_behind, scope_behind, scopes_behind}
+use Rattle.xs_ccheck.specs.StmtTyping.{FileNames, declarator, declarators, group, groups, label_number, labels, line_of_label, stmt, stmts}
 use Rattle.xs_ccheck.proofs.Collecting.{joined_first, joined_second, on, on_first, on_good, on_two, resolves_on}
 
 -- ---- nodes of two parts
@@ -52,6 +51,8 @@ use Rattle.xs_ccheck.proofs.Collecting.{joined_first, joined_second, on, on_firs
 module _ (old new : Typed) (k : Keeps old new) where
   target_kept : (t : TargetNode) → target_fits (length old.exprs.items) t ≡ true → target_from t (expr_in new) ≡ target_from t (expr_in old)
   target_kept (target_node.Variable x t) h = refl
+  target_kept (target_node.Pointed x kind) h = refl
+  target_kept (target_node.Field x r field kind) h = refl
   target_kept (target_node.Item at) h = ap ToItem (k.expr at (ltb-true at (length old.exprs.items) h))
 
   place_kept : (p : PlaceNode) → HasTarget old p → target_in new p ≡ target_in old p
@@ -130,6 +131,17 @@ module _ (names : FileNames) (w : Where) where
   unfolding stmt
   stmts_end scope body i le = ap (λ xs. stmts names w scope (stmts_of (map stmt_tree xs))) (drop_all i body le)
 
+  pub groups_next : (scope : Scope) (all : List Group) (i : ℕ) (g : Group) → i < length all → g ≡ get_or all i g
+      → groups names w scope (groups_of (map group_tree (drop i all)))
+      ≡ more (group names w scope (group_tree g).labels (group_tree g).body)
+      (groups names w (scopes_behind scope (group_tree g).body) (groups_of (map group_tree (drop (i + 1) all))))
+  unfolding stmt
+  groups_next scope all i g lt is = ap (λ xs. groups names w scope (groups_of (map group_tree xs))) (rest_of all i g lt is)
+
+  pub groups_end : (scope : Scope) (all : List Group) (i : ℕ) → length all ≤ i → groups names w scope (groups_of (map group_tree (drop i all))) ≡ Good []
+  unfolding stmt
+  groups_end scope all i le = ap (λ xs. groups names w scope (groups_of (map group_tree xs))) (drop_all i all le)
+
 pub scopes_next : (scope : Scope) (body : List Stmt) (i : ℕ) (s : Stmt) → i < length body → s ≡ get_or body i s
     → scopes_behind scope (stmts_of (map stmt_tree (drop i body)))
     ≡ scopes_behind (scope_behind scope (stmt_tree s)) (stmts_of (map stmt_tree (drop (i + 1) body)))
@@ -139,6 +151,31 @@ scopes_next scope body i s lt is = ap (λ xs. scopes_behind scope (stmts_of (map
 pub scopes_end : (scope : Scope) (body : List Stmt) (i : ℕ) → length body ≤ i → scopes_behind scope (stmts_of (map stmt_tree (drop i body))) ≡ scope
 unfolding scope_behind
 scopes_end scope body i le = ap (λ xs. scopes_behind scope (stmts_of (map stmt_tree xs))) (drop_all i body le)
+
+pub groups_behind_next : (scope : Scope) (all : List Group) (i : ℕ) (g : Group) → i < length all → g ≡ get_or all i g
+    → groups_behind scope (groups_of (map group_tree (drop i all)))
+    ≡ groups_behind (scopes_behind scope (group_tree g).body) (groups_of (map group_tree (drop (i + 1) all)))
+unfolding scope_behind
+groups_behind_next scope all i g lt is = ap (λ xs. groups_behind scope (groups_of (map group_tree xs))) (rest_of all i g lt is)
+
+pub groups_behind_end : (scope : Scope) (all : List Group) (i : ℕ) → length all ≤ i → groups_behind scope (groups_of (map group_tree (drop i all))) ≡ scope
+unfolding scope_behind
+groups_behind_end scope all i le = ap (λ xs. groups_behind scope (groups_of (map group_tree xs))) (drop_all i all le)
+
+pub labels_next : (vs : List Local) (all : List Label) (i : ℕ) (l : Label) → i < length all → l ≡ get_or all i l
+    → labels vs (drop i all) ≡ more (judged (line_of_label l) (label_number vs l)) (labels vs (drop (i + 1) all))
+labels_next vs all i l lt is = ap (labels vs) (rest_of all i l lt is)
+
+pub declarators_next : (base : List ℕ) (scope : Scope) (ds : List Declarator) (i : ℕ) (d : Declarator) → i < length ds → d ≡ get_or ds i d
+    → declarators base scope (map declarator_tree (drop i ds))
+    ≡ more (declarator base scope (declarator_tree d) (declarator_tree d).value)
+    (declarators base (name_behind base scope (declarator_tree d)) (map declarator_tree (drop (i + 1) ds)))
+declarators_next base scope ds i d lt is = ap (λ xs. declarators base scope (map declarator_tree xs)) (rest_of ds i d lt is)
+
+pub names_next : (base : List ℕ) (scope : Scope) (ds : List Declarator) (i : ℕ) (d : Declarator) → i < length ds → d ≡ get_or ds i d
+    → declarators_behind base scope (map declarator_tree (drop i ds))
+    ≡ declarators_behind base (name_behind base scope (declarator_tree d)) (map declarator_tree (drop (i + 1) ds))
+names_next base scope ds i d lt is = ap (λ xs. declarators_behind base scope (map declarator_tree xs)) (rest_of ds i d lt is)
 
 -- what holds unless memory ran out holds of a part that was taken up
 pub taken : {X : Type 0} (P : Type 0) (part : Result X Refuse) (good good1 : List X) (least least1 : Option Fault)
@@ -162,7 +199,7 @@ pub functions_next : (names : FileNames) (items : List FileItem) (i : ℕ) (x : 
 functions_next names items i x lt is = ap (λ xs. functions names i (map item_tree xs)) (rest_of items i x lt is)
 
 abbrev pub FunctionsSoFar : Option Fault → Typed → Checked (List tree.Function) → Checked (List tree.Function) → Type 0
-FunctionsSoFar None t whole rest = whole ≡ on (Good (functions_in t)) rest
+FunctionsSoFar None t whole rest = (whole ≡ on (Good (functions_in t)) rest) × (records_in t ≡ [])
 FunctionsSoFar (Some f) t whole rest = whole ≡ on (Bad f) rest
 
 later_on : (g : Fault) (f : tree.Function) (rest : Checked (List tree.Function)) → on (Bad g) (more (Good f) rest) ≡ on (Bad g) rest
@@ -173,12 +210,14 @@ pub function_noted : (least least1 : Option Fault) (part : Result (Unit {0}) Ref
     (whole now rest : Checked (List tree.Function)) → now ≡ more read rest → FunctionsSoFar least t whole now → GivesFunction part t new read
     → Notes least part (Ok least1) → FunctionsSoFar least1 new whole rest
 function_noted None least1 (Ok u) t new read whole now rest e h r n =
-    subst (λ l. FunctionsSoFar l new whole rest) (sym n)
-    (h ∙ ap (on (Good (functions_in t))) (e ∙ ap (λ z. more z rest) r.means) ∙ on_good (functions_in t) r.here rest
-    ∙ ap (λ fs. on (Good fs) rest) (sym r.functions))
+    subst (λ l. FunctionsSoFar l new whole rest) (sym n) (
+      h.0 ∙ ap (on (Good (functions_in t))) (e ∙ ap (λ z. more z rest) r.means) ∙ on_good (functions_in t) r.here rest
+          ∙ ap (λ fs. on (Good fs) rest) (sym r.functions),
+      r.records ∙ h.1,
+    )
 function_noted None least1 (Err (refuse.Fault f)) t new read whole now rest e h r n =
     subst (λ l. FunctionsSoFar l new whole rest) (sym n)
-    (h ∙ ap (on (Good (functions_in t))) (e ∙ ap (λ z. more z rest) r) ∙ on_first (functions_in t) f rest)
+    (h.0 ∙ ap (on (Good (functions_in t))) (e ∙ ap (λ z. more z rest) r) ∙ on_first (functions_in t) f rest)
 function_noted (Some g) least1 (Ok u) t new read whole now rest e h r n =
     subst (λ l. FunctionsSoFar l new whole rest) (sym n) (h ∙ ap (on (Bad g)) (e ∙ ap (λ z. more z rest) r.means) ∙ later_on g r.here rest)
 function_noted (Some g) least1 (Err (refuse.Fault f)) t new read whole now rest e h r n =
@@ -188,5 +227,5 @@ function_noted (Some g) least1 (Err refuse.Memory) t new read whole now rest e h
 
 pub functions_end : (least : Option Fault) (t : Typed) (whole now : Checked (List tree.Function)) → now ≡ Good [] → FunctionsSoFar least t whole now
     → GivesFunctions (settled t least) whole
-functions_end None t whole now e h = h ∙ ap (on (Good (functions_in t))) e ∙ ap Good (append-nil (functions_in t))
+functions_end None t whole now e h = (h.0 ∙ ap (on (Good (functions_in t))) e ∙ ap Good (append-nil (functions_in t)), h.1)
 functions_end (Some f) t whole now e h = h ∙ ap (on (Bad f)) e

@@ -6,10 +6,10 @@ use Rattle.std.specs.Str.{bytes_eq}
 use Rattle.std.proofs.Math.Seq.{take-append_seam}
 use Rattle.std.proofs.lemmas.Option.{same_Some}
 use Rattle.xs_cstmt.specs.StatementTree as statement
-use Rattle.xs_cstmt.specs.StatementTree.{DeclaratorTree, StmtTree, StmtTrees}
+use Rattle.xs_cstmt.specs.StatementTree.{DeclaratorTree, FirstTree, StmtTree, StmtTrees, GroupTrees}
 use Rattle.xs_ctree.specs.declared.value_type.Slot.{Slot}
 use Rattle.xs_ctree.specs.declared.value_type.ValueType.{ValueType}
-use Rattle.xs_ccheck.specs.Scopes.{Local, Scope, declarators_behind, is_in_use, new_variable, next_slot, scope_behind, scopes_behind, variable_of, with_variable}
+use Rattle.xs_ccheck.specs.Scopes.{Local, Scope, declarators_behind, first_behind, groups_behind, is_in_use, name_behind, new_variable, next_slot, outside, scope_behind, scopes_behind, variable_of, with_variable}
 use Rattle.xs_ccheck.specs.TypeNames.{declared_type}
 
 -- ---- a variable more
@@ -115,34 +115,56 @@ variable_grown s line name t = by (is_in_use s.variables name)
       held = held_more s.slots s.variables (record { name = name; slot = next_slot s line t }) refl;
     }
 
+pub name_grown : (base : List ℕ) (s : Scope) (d : DeclaratorTree) → Grown s (name_behind base s d)
+name_grown base s d = variable_grown s d.line d.name (declared_type base d.stars)
+
 pub names_grown : (base : List ℕ) (s : Scope) (ds : List DeclaratorTree) → Grown s (declarators_behind base s ds)
 names_grown base s [] = grown_same s
 names_grown base s (d ∷ ds) =
-    let t : Scope = with_variable s d.line d.name (declared_type base d.stars) in
-    grown_trans s t (declarators_behind base t ds) (variable_grown s d.line d.name (declared_type base d.stars)) (names_grown base t ds)
+    let t : Scope = name_behind base s d in
+    grown_trans s t (declarators_behind base t ds) (name_grown base s d) (names_grown base t ds)
 
 -- a block ends with the variables before it
 pub block_end : (s t : Scope) → Grown s t → take (length s.variables) t.variables ≡ s.variables
 block_end s t g = ap (take (length s.variables)) g.variables ∙ take-append_seam s.variables g.more
 
+pub outside_grown : (s inner : Scope) → Grown s inner → Grown s (outside s inner)
+outside_grown s inner g = record {
+  more = [];
+  variables = block_end s inner g ∙ sym (append-nil s.variables);
+  numbered = g.numbered;
+  kept = g.kept;
+  held = λ h. subst (Held inner.slots) (sym (block_end s inner g)) (λ name z e. g.kept z.number z (h name z e));
+}
+
+pub first_grown : (s : Scope) (first : FirstTree) → Grown s (first_behind s first)
+first_grown s statement.NoFirst = grown_same s
+first_grown s (statement.FirstDeclare d) = names_grown d.base s d.names
+first_grown s (statement.FirstEffect e) = grown_same s
+
 mutual
   unfolding scope_behind
 
   pub scope_grown : (s : Scope) (t : StmtTree) → Grown s (scope_behind s t)
-  scope_grown s (statement.Block line body) =
-      let g : Grown s (scopes_behind s body) = scopes_grown s body in
-      record {
-        more = [];
-        variables = block_end s (scopes_behind s body) g ∙ sym (append-nil s.variables);
-        numbered = g.numbered;
-        kept = g.kept;
-        held = λ h. subst (Held (scopes_behind s body).slots) (sym (block_end s (scopes_behind s body) g)) (λ name z e. g.kept z.number z (h name z e));
-      }
+  scope_grown s (statement.Block line body) = outside_grown s (scopes_behind s body) (scopes_grown s body)
   scope_grown s (statement.Declare d) = names_grown d.base s d.names
   scope_grown s (statement.If line test t) = scope_grown s t
+  scope_grown s (statement.IfElse line test t other) =
+      grown_trans s (scope_behind s t) (scope_behind (scope_behind s t) other) (scope_grown s t) (scope_grown (scope_behind s t) other)
+  scope_grown s (statement.While line test t) = scope_grown s t
+  scope_grown s (statement.DoWhile line t test) = scope_grown s t
+  scope_grown s (statement.For line head t) =
+      let inner : Scope = first_behind s head.first in
+      outside_grown s (scope_behind inner t) (grown_trans s inner (scope_behind inner t) (first_grown s head.first) (scope_grown inner t))
+  scope_grown s (statement.Switch line e all) = groups_grown s all
   scope_grown s _ = grown_same s
 
   pub scopes_grown : (s : Scope) (all : StmtTrees) → Grown s (scopes_behind s all)
   scopes_grown s statement.NoStmts = grown_same s
   scopes_grown s (statement.MoreStmts t rest) =
       grown_trans s (scope_behind s t) (scopes_behind (scope_behind s t) rest) (scope_grown s t) (scopes_grown (scope_behind s t) rest)
+
+  pub groups_grown : (s : Scope) (all : GroupTrees) → Grown s (groups_behind s all)
+  groups_grown s statement.NoGroups = grown_same s
+  groups_grown s (statement.MoreGroups line labels body rest) =
+      grown_trans s (scopes_behind s body) (groups_behind (scopes_behind s body) rest) (scopes_grown s body) (groups_grown (scopes_behind s body) rest)

@@ -1,17 +1,18 @@
 -- The slots of the code of a function are those that its text means.
 use Rattle.std.proofs.Common.{◌≡◌, ℕ, ◌+◌, Bool, true, false, cond, List, [], ◌∷◌, ◌++◌, map, length, codes, Option, None, Some, Ok, slice_get, refl, sym, ap, ap₂, ◌∙◌, subst, append_assoc, append-nil}
 use Rattle.std.specs.Option.{option_map, is_some}
-use Rattle.std.specs.Prelude.{nat_eq}
+use Rattle.std.specs.Prelude.{◌||◌, nat_eq}
 use Rattle.std.specs.Str.{bytes_eq}
 use Rattle.std.proofs.lemmas.Bool.{or_parts}
 use Rattle.std.proofs.lemmas.List.{length-append, map-append}
 use Rattle.std.proofs.lemmas.Slice.Eq.{bytes_eq-Decides}
-use Rattle.xs_base.specs.declared.fault_codes.TheConstants.{DECLARED_TWICE, TYPES_DIFFER}
+use Rattle.xs_base.specs.declared.fault_codes.TheConstants.{DECLARED_TWICE, TYPES_DIFFER, WORD_NOT_ALLOWED}
 use Rattle.xs_cinput.specs.declared.tree.BinaryOp.TheVariants as c
 use Rattle.xs_cexpr.specs.ExpressionTree as syntax
 use Rattle.xs_cexpr.specs.ExpressionTree.{ExprTree, ExprTrees, PlaceTree, VarPlace, StPlace}
 use Rattle.xs_cstmt.specs.StatementTree as statement
-use Rattle.xs_cstmt.specs.StatementTree.{DeclaratorTree, StmtTree, StmtTrees}
+use Rattle.xs_cstmt.specs.StatementTree.{DeclaratorTree, FirstTree, StmtTree, StmtTrees, GroupTrees}
+use Rattle.xs_cstmt.specs.declared.tree.Label.{Label}
 use Rattle.xs_cstmt.specs.declared.tree.PerlForm.{PerlForm}
 use Rattle.xs_cstmt.specs.declared.tree.PerlForm.TheVariants as form
 use Rattle.xs_cstmt.specs.declared.tree.PerlWord.{PerlWord}
@@ -20,20 +21,22 @@ use Rattle.xs_csyn.specs.FileTree.{XsFunTree, FileTree}
 use Rattle.xs_perlapi.specs.Table.{RowCall, is_interface_word, row_named}
 use Rattle.xs_ctree.specs.declared.value_type.Slot.{Slot}
 use Rattle.xs_ctree.specs.declared.value_type.ValueType.{ValueType}
+use Rattle.xs_ctree.specs.declared.value_type.ValueType.TheVariants as type_of
+use Rattle.xs_values.specs.Numbers.{Number}
 use Rattle.xs_ctree.specs.TypedTree.{Code, Expr, Exprs, NoExprs, MoreExprs, Literal, Variable, ItemCount, Cast, Binary, Assign, Api, Usage, Target, ToVariable, ToItem, Function, Stmt, Stmts, exprs_of, nothing, stmts_of}
 use Rattle.xs_ctree.specs.TypedTree as typed_tree
 use Rattle.xs_ccheck.specs.declared.names.Where.{Where}
-use Rattle.xs_ccheck.specs.Checked.{Checked, Good, Bad, behind, both, more, Judged, Fine, Wrong, judged}
-use Rattle.xs_ccheck.specs.ExprTyping.{TypedExpr, TypedTarget, all_fit, called, expr, exprs, name_meant, place_in, typed, usage, usage_of, usage_word, is_cv, text_in, variable_place}
+use Rattle.xs_ccheck.specs.Checked.{Checked, Good, Bad, behind, both, Judged, Fine, Wrong, judged}
+use Rattle.xs_ccheck.specs.ExprTyping.{TypedExpr, TypedTarget, all_fit, called, expr, exprs, name_meant, option_expr, place_in, typed, usage, usage_of, usage_word, is_cv, text_in, variable_place}
 use Rattle.xs_ccheck.specs.FileTyping.{behind_entry, entry_form, entry_of, function_done, is_boot_name, typed_of, where_in, with_entry}
-use Rattle.xs_ccheck.specs.Scopes.{Local, Scope, beginning, declared_in, declarators_behind, is_in_use, new_variable, next_slot, outside, scope_behind, scopes_behind, variable_of, with_variable}
-use Rattle.xs_ccheck.specs.StmtTyping.{FileNames, conditional, declaration, declarator, declared, effect, index_of, perl, perl_word, quits, registered, stmt, stmts}
+use Rattle.xs_ccheck.specs.Scopes.{Local, Scope, beginning, declared_in, declarators_behind, first_behind, groups_behind, is_in_use, name_behind, new_variable, next_slot, outside, scope_behind, scopes_behind, variable_of, with_variable}
+use Rattle.xs_ccheck.specs.StmtTyping.{FileNames, TypedGroup, begun, conditional, declaration, declarator, declarators, declared, first_part, for_loop, function_end, groups, groups_of, in_group, in_order, in_turn, index_of, is_given, is_test, labels, may_return, perl, perl_word, quits, registered, returned, stated, stmt, stmts, switched, test_of, unset}
 use Rattle.xs_ccheck.specs.TypeNames.{declared_type, type_named}
 use Rattle.xs_ccheck.specs.ValueTypes.{is_condition, is_number, goes_into, of_cast, of_two}
 use Rattle.xs_ccheck.proofs.GoodFunctions.{OfItem, each_function, function_of, statements_of}
-use Rattle.xs_ccheck.proofs.ScopesGrow.{Grown, Numbered, block_end, found_last, is_none_of, scopes_grown}
-use Rattle.xs_ccheck.proofs.WhereGood.{WhereFine, WhereGood, behind_good, both_good, fine_by, fine_unless, judged_good, two_wrongs}
-use Rattle.xs_ccheck.specs.SlotUses.{SlotUse, Declares, Uses, slots_declared, in_expr, in_exprs, in_target, in_stmt, in_stmts, Named, Known, nothing_known, last_declared, knowing_also, known_behind, known_behind_all, known_behind_names, known_outside, use_of, meant_in_expr, meant_in_exprs, meant_in_place, meant_in_names, meant_in_stmt, meant_in_stmts, HasItsSlots}
+use Rattle.xs_ccheck.proofs.ScopesGrow.{Grown, Numbered, block_end, first_grown, found_last, grown_trans, is_none_of, scope_grown, scopes_grown}
+use Rattle.xs_ccheck.proofs.WhereGood.{WhereFine, WhereGood, behind_good, both_good, fine_by, judged_good, two_wrongs}
+use Rattle.xs_ccheck.specs.SlotUses.{SlotUse, Declares, Uses, slots_declared, in_expr, in_exprs, in_target, in_test, in_each, in_stmt, in_stmts, in_groups, Named, Known, nothing_known, last_declared, knowing_also, known_behind, known_behind_all, known_behind_names, known_behind_groups, known_first, known_outside, use_of, meant_in_expr, meant_in_exprs, meant_in_place, meant_in_value, meant_in_name, meant_in_names, meant_in_first, meant_in_stmt, meant_in_stmts, meant_in_groups, HasItsSlots}
 
 -- ---- expressions
 
@@ -153,22 +156,36 @@ none_and_none u v d e = declared_append u v ∙ ap₂ (λ x y. x ++ y) d e
 -- nothing is declared in an expression
 mutual
   expr_declares : (e : Expr) → slots_declared (in_expr e) ≡ []
-  expr_declares (Literal n) = refl
-  expr_declares (Variable x) = refl
-  expr_declares ItemCount = refl
-  expr_declares (Cast t e) = expr_declares e
-  expr_declares (Binary op a b) = none_and_none (in_expr a) (in_expr b) (expr_declares a) (expr_declares b)
-  expr_declares (Assign at to e) = none_and_none (in_target to) (in_expr e) (target_declares to) (expr_declares e)
-  expr_declares (Api at r es) = exprs_declare es
-  expr_declares (Usage at text) = refl
+  expr_declares (typed_tree.Passed e) = expr_declares e
+  expr_declares (typed_tree.Read e) = expr_declares e
+  expr_declares (typed_tree.Cast t e) = expr_declares e
+  expr_declares (typed_tree.RecordOf r e) = expr_declares e
+  expr_declares (typed_tree.ByteAt a b) = none_and_none (in_expr a) (in_expr b) (expr_declares a) (expr_declares b)
+  expr_declares (typed_tree.Not e) = expr_declares e
+  expr_declares (typed_tree.Unary op e) = expr_declares e
+  expr_declares (typed_tree.Binary op a b) = none_and_none (in_expr a) (in_expr b) (expr_declares a) (expr_declares b)
+  expr_declares (typed_tree.Same equal a b) = none_and_none (in_expr a) (in_expr b) (expr_declares a) (expr_declares b)
+  expr_declares (typed_tree.And a b) = none_and_none (in_expr a) (in_expr b) (expr_declares a) (expr_declares b)
+  expr_declares (typed_tree.Or a b) = none_and_none (in_expr a) (in_expr b) (expr_declares a) (expr_declares b)
+  expr_declares (typed_tree.Choice at t e a b) =
+      none_and_none (in_expr e) (in_expr a ++ in_expr b) (expr_declares e) (none_and_none (in_expr a) (in_expr b) (expr_declares a) (expr_declares b))
+  expr_declares (typed_tree.Pointed at t e) = expr_declares e
+  expr_declares (typed_tree.StepOf at op to) = target_declares to
+  expr_declares (typed_tree.Assign at to e) = none_and_none (in_target to) (in_expr e) (target_declares to) (expr_declares e)
+  expr_declares (typed_tree.Compound at to op e) = none_and_none (in_target to) (in_expr e) (target_declares to) (expr_declares e)
+  expr_declares (typed_tree.Api at r es) = exprs_declare es
+  expr_declares (typed_tree.TextWithLength at x e) = none_and_none (in_expr e) (Uses x ∷ []) (expr_declares e) refl
+  expr_declares (typed_tree.Croak at format es) = exprs_declare es
+  expr_declares (typed_tree.Call at f es) = exprs_declare es
+  expr_declares _ = refl
 
   exprs_declare : (es : Exprs) → slots_declared (in_exprs es) ≡ []
   exprs_declare NoExprs = refl
   exprs_declare (MoreExprs e es) = none_and_none (in_expr e) (in_exprs es) (expr_declares e) (exprs_declare es)
 
   target_declares : (t : Target) → slots_declared (in_target t) ≡ []
-  target_declares (ToVariable x t) = refl
   target_declares (ToItem e) = expr_declares e
+  target_declares _ = refl
 
 -- ---- scopes
 
@@ -225,81 +242,114 @@ same_scope : {A : Type 0} (view : A → List SlotUse) (u : List SlotUse) (s : Sc
     → Between view u s s k a
 same_scope view u s k a f e d = record { are = e; follows = f; declares = sym (append-nil (numbers s)) ∙ ap (λ xs. numbers s ++ xs) (sym d) }
 
+-- ---- nodes of one part and of two, one behind the other
+
+-- a node that does with slots what its part does
+module _ {A B : Type 0} (view : A → List SlotUse) (shown : B → List SlotUse) (u : List SlotUse) (s after : Scope) (k : Known) where
+  as_part : (a : A) → Between view u s after k a → (c : Checked B) → WhereGood (λ b. shown b ≡ view a) c → Stands shown u s after k c
+  as_part a h (Bad e) w = record { good = tt }
+  as_part a h (Good b) w = record {
+    good = record {
+      are = w.good ∙ h.are;
+      follows = h.follows;
+      declares = h.declares ∙ ap (λ v. numbers s ++ slots_declared v) (sym w.good);
+    };
+  }
+
+  one_stands : (r : Checked A) (node : A → Checked B) → Stands view u s after k r → ((a : A) → WhereGood (λ b. shown b ≡ view a) (node a))
+      → Stands shown u s after k (behind r node)
+  one_stands (Bad e) node h is = record { good = tt }
+  one_stands (Good a) node h is = as_part a h.good (node a) (is a)
+
+module _ {A B C : Type 0} (front : A → List SlotUse) (back : B → List SlotUse) (shown : C → List SlotUse) (s mid after : Scope) (k1 k2 : Known)
+    (u v : List SlotUse) where
+  joined_stand : (a : A) (b : B) → Between front u s mid k1 a → Between back v mid after k2 b → (c : Checked C)
+      → WhereGood (λ z. shown z ≡ front a ++ back b) c → Stands shown (u ++ v) s after k2 c
+  joined_stand a b h g (Bad e) w = record { good = tt }
+  joined_stand a b h g (Good c) w = record {
+    good = record {
+      are = w.good ∙ ap₂ (λ x y. x ++ y) h.are g.are;
+      follows = g.follows;
+      declares = g.declares ∙ ap (λ xs. xs ++ slots_declared (back b)) h.declares
+          ∙ append_assoc (numbers s) (slots_declared (front a)) (slots_declared (back b))
+          ∙ ap (λ xs. numbers s ++ xs) (sym (declared_append (front a) (back b)) ∙ sym (ap slots_declared w.good));
+    };
+  }
+
+  both_stand : (r : Checked A) (t : Checked B) (node : A → B → Checked C) → Stands front u s mid k1 r → (Follows mid k1 → Stands back v mid after k2 t)
+      → ((a : A) (b : B) → WhereGood (λ z. shown z ≡ front a ++ back b) (node a b)) → Stands shown (u ++ v) s after k2 (both r t node)
+  both_stand (Bad e) (Good b) node h next is = record { good = tt }
+  both_stand (Bad e) (Bad d) node h next is = record { good = tt }
+  both_stand (Good a) (Bad d) node h next is = record { good = tt }
+  both_stand (Good a) (Good b) node h next is = joined_stand a b h.good (next h.good.follows).good (node a b) (is a b)
+
+-- ---- declarations
+
 module _ (s : Scope) (k : Known) (f : Follows s k) where
-  declared_stands : (line : ℕ) (name : List ℕ) (t : ValueType) (o : Option ValueType)
-      → Stands in_stmt (Declares k.count ∷ []) s (with_variable s line name t) (knowing_also k name) (judged line (declared s line name o))
-  declared_stands line name t None = record { good = tt }
-  declared_stands line name t (Some u) = by (is_in_use s.variables name) refl
+  -- what is declared with a type
+  declared_stands : (line : ℕ) (name : List ℕ) (t : ValueType) (o given : Option ValueType) (u : List SlotUse) (made : ValueType → Stmt)
+      → ((v : ValueType) → in_stmt (made v) ≡ Declares (length s.slots) ∷ u) → slots_declared u ≡ []
+      → Stands in_stmt (Declares k.count ∷ u) s (with_variable s line name t) (knowing_also k name) (judged line (stated made (declared s name o given)))
+  declared_stands line name t None given u made are none = record { good = tt }
+  declared_stands line name t (Some v) given u made are none = by_given (is_given given v)
     where
       by : (b : Bool) → is_in_use s.variables name ≡ b
-          → Stands in_stmt (Declares k.count ∷ []) s (cond b s (new_variable s name (next_slot s line t))) (knowing_also k name)
-          (judged line (cond b (Wrong DECLARED_TWICE name) (Fine (typed_tree.Declare line (length s.slots)))))
+          → Stands in_stmt (Declares k.count ∷ u) s (cond b s (new_variable s name (next_slot s line t))) (knowing_also k name)
+          (judged line (stated made (cond b (Wrong DECLARED_TWICE name) (Fine v))))
       by true e = record { good = tt }
       by false e = record {
         good = record {
-          are = ap (λ n. Declares n ∷ []) f.count;
+          are = are v ∙ ap (λ n. Declares n ∷ u) f.count;
           follows = record {
             agree = agree_more s.variables k.names (record { name = name; slot = next_slot s line t }) k.count f.agree (free_name s.variables name e) f.count;
             count = length-append s.slots (next_slot s line t ∷ []) ∙ ap (λ n. n + 1) f.count;
           };
-          declares = map-append (λ (z : Slot). z.number) s.slots (next_slot s line t ∷ []);
+          declares = map-append (λ (z : Slot). z.number) s.slots (next_slot s line t ∷ []) ∙ ap (λ xs. numbers s ++ (length s.slots ∷ xs)) (sym none)
+              ∙ ap (λ z. numbers s ++ slots_declared z) (sym (are v));
         };
       }
 
-  declarator_stands : (line : ℕ) (base : List ℕ) (d : DeclaratorTree) (value : Option ExprTree)
-      → Stands in_stmt (Declares k.count ∷ []) s (with_variable s d.line d.name (declared_type base d.stars)) (knowing_also k d.name)
-      (declarator line s base d value)
-  declarator_stands line base d None = declared_stands d.line d.name (declared_type base d.stars) (type_named base d.stars)
-  declarator_stands line base d (Some value) = record { good = tt }
+      by_given : (g : Bool) → Stands in_stmt (Declares k.count ∷ u) s (with_variable s line name t) (knowing_also k name)
+          (judged line (stated made (cond g (cond (is_in_use s.variables name) (Wrong DECLARED_TWICE name) (Fine v)) (Wrong TYPES_DIFFER []))))
+      by_given true = by (is_in_use s.variables name) refl
+      by_given false = record { good = tt }
 
-  declaration_stands : (line : ℕ) (base : List ℕ) (ds : List DeclaratorTree)
-      → Stands in_stmt (meant_in_names k.count ds) s (declarators_behind base s ds) (known_behind_names k ds) (declaration line s base ds)
-  declaration_stands line base [] = record { good = tt }
-  declaration_stands line base (d ∷ []) = declarator_stands line base d d.value
-  declaration_stands line base (d ∷ e ∷ ds) = record { good = tt }
+  begun_in : (line slot : ℕ) (e : Expr) (t : ValueType) → in_stmt (begun line slot e t) ≡ Declares slot ∷ Uses slot ∷ in_expr e
+  begun_in line slot e t = ap (λ u. Declares slot ∷ Uses slot ∷ u) (append-nil (in_expr e))
 
-  effect_in : (line : ℕ) (e : Expr) (b : Bool) → in_stmt (cond b (typed_tree.Quit line e) (typed_tree.Effect e)) ≡ in_expr e
-  effect_in line e true = refl
-  effect_in line e false = refl
+  valued_stands : (base : List ℕ) (d : DeclaratorTree) (u : List SlotUse) (r : Checked TypedExpr) → Does in_typed u r
+      → Stands in_stmt (Declares k.count ∷ Uses k.count ∷ u) s (name_behind base s d) (knowing_also k d.name)
+      (behind r (λ x. judged d.line (stated (begun d.line (length s.slots) x.tree) (declared s d.name (type_named base d.stars) (Some x.of_type)))))
+  valued_stands base d u (Bad e) h = record { good = tt }
+  valued_stands base d u (Good x) h =
+      subst (λ z. Stands in_stmt z s (name_behind base s d) (knowing_also k d.name)
+      (judged d.line (stated (begun d.line (length s.slots) x.tree) (declared s d.name (type_named base d.stars) (Some x.of_type)))))
+      (ap₂ (λ n v. Declares k.count ∷ Uses n ∷ v) f.count h.good)
+      (declared_stands d.line d.name (declared_type base d.stars) (type_named base d.stars) (Some x.of_type) (Uses (length s.slots) ∷ in_expr x.tree)
+      (begun d.line (length s.slots) x.tree) (begun_in d.line (length s.slots) x.tree) (expr_declares x.tree))
 
-  effect_stands : (line : ℕ) (u : List SlotUse) (r : Checked TypedExpr) → Does in_typed u r
-      → Stands in_stmt u s s k (behind r (λ x. Good (effect line x.tree)))
-  effect_stands line u (Bad e) h = record { good = tt }
-  effect_stands line u (Good x) h =
-      let same : in_stmt (effect line x.tree) ≡ in_expr x.tree = effect_in line x.tree (quits x.tree) in
-      record { good = same_scope in_stmt u s k (effect line x.tree) f (same ∙ h.good) (ap slots_declared same ∙ expr_declares x.tree) }
+  declarator_stands : (base : List ℕ) (d : DeclaratorTree) (value : Option ExprTree)
+      → Stands in_stmt (meant_in_name k value) s (name_behind base s d) (knowing_also k d.name) (declarator base s d value)
+  declarator_stands base d None =
+      declared_stands d.line d.name (declared_type base d.stars) (type_named base d.stars) None [] (unset d.line (length s.slots)) (λ v. refl) refl
+  declarator_stands base d (Some value) =
+      valued_stands base d (meant_in_expr k.names value) (expr s.variables value) (expr_does s.variables k.names f.agree value)
 
-  -- a form of the XS interface does nothing with slots
-  perl_stands : (line : ℕ) (j : Judged Stmt) → WhereFine (Doing in_stmt []) j → Stands in_stmt [] s s k (judged line j)
-  perl_stands line (Fine t) h = record { good = same_scope in_stmt [] s k t f h (ap slots_declared h) }
-  perl_stands line (Wrong code word) h = record { good = tt }
+  -- an expression
+  expr_stands : (u : List SlotUse) (r : Checked TypedExpr) → Does in_typed u r → Stands in_typed u s s k r
+  expr_stands u (Bad e) h = record { good = tt }
+  expr_stands u (Good x) h = record { good = same_scope in_typed u s k x f h.good (expr_declares x.tree) }
 
-  if_stands : (line : ℕ) (after : Scope) (k1 : Known) (u v : List SlotUse) (r : Checked TypedExpr) (t : Checked Stmt) → Does in_typed u r
-      → Stands in_stmt v s after k1 t → Stands in_stmt (u ++ v) s after k1 (both r t (λ x y. judged line (conditional line x y)))
-  if_stands line after k1 u v (Bad e) (Good y) h g = record { good = tt }
-  if_stands line after k1 u v (Bad e) (Bad d) h g = record { good = tt }
-  if_stands line after k1 u v (Good x) (Bad d) h g = record { good = tt }
-  if_stands line after k1 u v (Good x) (Good y) h g = by (is_condition x.of_type)
-    where
-      none : slots_declared (in_expr x.tree ++ (in_stmt y ++ [])) ≡ slots_declared (in_stmt y)
-      none =
-          declared_append (in_expr x.tree) (in_stmt y ++ []) ∙ ap (λ z. z ++ slots_declared (in_stmt y ++ [])) (expr_declares x.tree)
-          ∙ ap slots_declared (append-nil (in_stmt y))
+  -- what does nothing with slots
+  still_stands : (line : ℕ) (j : Judged Stmt) → WhereFine (Doing in_stmt []) j → Stands in_stmt [] s s k (judged line j)
+  still_stands line (Fine t) h = record { good = same_scope in_stmt [] s k t f h (ap slots_declared h) }
+  still_stands line (Wrong code word) h = record { good = tt }
 
-      by : (b : Bool) → Stands in_stmt (u ++ v) s after k1 (judged line (cond b (Fine (typed_tree.If line x.tree y nothing)) (Wrong TYPES_DIFFER [])))
-      by true = record {
-        good = record {
-          are = ap₂ (λ a b. a ++ b) h.good (append-nil (in_stmt y) ∙ g.good.are);
-          follows = g.good.follows;
-          declares = g.good.declares ∙ ap (λ xs. numbers s ++ xs) (sym none);
-        };
-      }
-      by false = record { good = tt }
-
-  block_stands : (inner : Scope) (k1 : Known) (u : List SlotUse) (r : Checked (List Stmt)) → Grown s inner → Stands in_list u s inner k1 r
-      → Stands in_stmt u s (outside s inner) (known_outside k k1) (behind r (λ ts. Good (typed_tree.Block (declared_in s inner) (stmts_of ts))))
-  block_stands inner k1 u (Bad e) g h = record { good = tt }
-  block_stands inner k1 u (Good ts) g h = record {
+  -- what was declared inside is known no more
+  outside_stands : {A : Type 0} (view : A → List SlotUse) (inner : Scope) (k1 : Known) (u : List SlotUse) (r : Checked A) → Grown s inner
+      → Stands view u s inner k1 r → Stands view u s (outside s inner) (known_outside k k1) r
+  outside_stands view inner k1 u (Bad e) g h = record { good = tt }
+  outside_stands view inner k1 u (Good a) g h = record {
     good = record {
       are = h.good.are;
       follows = record { agree = subst (λ vs. Agree vs k.names) (sym (block_end s inner g)) f.agree; count = h.good.follows.count };
@@ -307,61 +357,217 @@ module _ (s : Scope) (k : Known) (f : Follows s k) where
     };
   }
 
-more_stands : (s mid after : Scope) (k1 k2 : Known) (u v : List SlotUse) (r : Checked Stmt) (t : Checked (List Stmt)) → Stands in_stmt u s mid k1 r
-    → (Follows mid k1 → Stands in_list v mid after k2 t) → Stands in_list (u ++ v) s after k2 (more r t)
-more_stands s mid after k1 k2 u v (Bad e) (Good ts) h next = record { good = tt }
-more_stands s mid after k1 k2 u v (Bad e) (Bad d) h next = record { good = tt }
-more_stands s mid after k1 k2 u v (Good a) (Bad d) h next = record { good = tt }
-more_stands s mid after k1 k2 u v (Good a) (Good ts) h next =
-    let g : Stands in_list v mid after k2 (Good ts) = next h.good.follows in
-    record {
-      good = record {
-        are = ap₂ (λ x y. x ++ y) h.good.are g.good.are;
-        follows = g.good.follows;
-        declares = g.good.declares ∙ ap (λ xs. xs ++ slots_declared (in_list ts)) h.good.declares
-            ∙ append_assoc (numbers s) (slots_declared (in_stmt a)) (slots_declared (in_list ts))
-            ∙ ap (λ xs. numbers s ++ xs) (sym (declared_append (in_stmt a) (in_list ts)));
-      };
-    }
+-- ---- forms
+
+declarators_stand : (base : List ℕ) (s : Scope) (k : Known) → Follows s k → (ds : List DeclaratorTree)
+    → Stands in_list (meant_in_names k ds) s (declarators_behind base s ds) (known_behind_names k ds) (declarators base s ds)
+declarators_stand base s k f [] = record { good = same_scope in_list [] s k [] f refl refl }
+declarators_stand base s k f (d ∷ ds) =
+    let mid : Scope = name_behind base s d in
+    let knows : Known = knowing_also k d.name in
+    both_stand in_stmt in_list in_list s mid (declarators_behind base mid ds) knows (known_behind_names knows ds) _ _ (declarator base s d d.value)
+    (declarators base mid ds) _ (declarator_stands s k f base d d.value) (λ g. declarators_stand base mid knows g ds) (λ x xs. record { good = refl })
+
+in_order_does : (ts : List Stmt) → in_stmt (in_order ts) ≡ in_list ts
+in_order_does [] = refl
+in_order_does (t ∷ []) = sym (append-nil (in_stmt t))
+in_order_does (t ∷ u ∷ ts) = refl
+
+effect_in : (line : ℕ) (e : Expr) (b : Bool) → in_stmt (cond b (typed_tree.Quit line e) (typed_tree.Effect e)) ≡ in_expr e
+effect_in line e true = refl
+effect_in line e false = refl
+
+-- a statement with a condition does what it does
+condition_does : (line : ℕ) (x : TypedExpr) (t : Stmt) (uses : List SlotUse) → in_stmt t ≡ uses
+    → WhereGood (λ z. in_stmt z ≡ uses) (judged line (conditional x t))
+condition_does line x t uses e = judged_good _ line _ (fine_by (λ z. in_stmt z ≡ uses) (is_condition x.of_type) (Fine t) TYPES_DIFFER [] e)
+
+-- an expression of a statement
+test_stands : (s : Scope) (k : Known) → Follows s k → (e : ExprTree) → Stands in_typed (meant_in_expr k.names e) s s k (expr s.variables e)
+test_stands s k f e = expr_stands s k f (meant_in_expr k.names e) (expr s.variables e) (expr_does s.variables k.names f.agree e)
+
+-- two statements
+abbrev in_two : Stmt × Stmt → List SlotUse
+in_two p = in_stmt p.0 ++ in_stmt p.1
+
+end_stands : (w : Where) (s : Scope) (k : Known) → Follows s k → (line : ℕ) (value : Option ExprTree)
+    → Stands in_stmt (meant_in_value k.names value) s s k (function_end w s line value)
+end_stands w s k f line None =
+    still_stands s k f line (returned w line None) (fine_by (Doing in_stmt []) (may_return w.result None) (Fine (typed_tree.Return line)) TYPES_DIFFER [] refl)
+end_stands w s k f line (Some value) =
+    one_stands in_typed in_stmt (meant_in_expr k.names value) s s k (expr s.variables value) _
+    (test_stands s k f value)
+    (λ x. judged_good _ line _
+    (fine_by (λ z. in_stmt z ≡ in_expr x.tree) (may_return w.result (Some x.of_type)) (Fine (typed_tree.Give line x.tree)) TYPES_DIFFER [] refl))
+
+declaration_stands : (s : Scope) (k : Known) → Follows s k → (base : List ℕ) (ds : List DeclaratorTree)
+    → Stands in_stmt (meant_in_names k ds) s (declarators_behind base s ds) (known_behind_names k ds) (declaration base s ds)
+declaration_stands s k f base ds =
+    one_stands in_list in_stmt (meant_in_names k ds) s (declarators_behind base s ds) (known_behind_names k ds) (declarators base s ds) _
+    (declarators_stand base s k f ds) (λ ts. record { good = in_order_does ts })
+
+-- ---- heads of `for`
+
+first_stands : (s : Scope) (k : Known) → Follows s k → (first : FirstTree)
+    → Stands in_stmt (meant_in_first k first) s (first_behind s first) (known_first k first) (first_part s first)
+first_stands s k f statement.NoFirst = record { good = same_scope in_stmt [] s k nothing f refl refl }
+first_stands s k f (statement.FirstDeclare d) = declaration_stands s k f d.base d.names
+first_stands s k f (statement.FirstEffect e) =
+    one_stands in_typed in_stmt (meant_in_expr k.names e) s s k (expr s.variables e) _ (test_stands s k f e) (λ x. record { good = refl })
+
+abbrev in_option : Option TypedExpr → List SlotUse
+in_option None = []
+in_option (Some x) = in_expr x.tree
+
+option_stands : (s : Scope) (k : Known) → Follows s k → (e : Option ExprTree)
+    → Stands in_option (meant_in_value k.names e) s s k (option_expr s.variables e)
+option_stands s k f None = record { good = same_scope in_option [] s k None f refl refl }
+option_stands s k f (Some e) =
+    one_stands in_typed in_option (meant_in_expr k.names e) s s k (expr s.variables e) _ (test_stands s k f e) (λ x. record { good = refl })
+
+-- the expression after each turn and the body; with the test before them
+abbrev in_turns : Option TypedExpr × Stmt → List SlotUse
+in_turns p = in_option p.0 ++ in_stmt p.1
+
+abbrev in_rest : Option TypedExpr × (Option TypedExpr × Stmt) → List SlotUse
+in_rest p = in_option p.0 ++ in_turns p.1
+
+test_in : (x : Option TypedExpr) → in_test (test_of x) ≡ in_option x
+test_in None = refl
+test_in (Some x) = refl
+
+each_in : (x : Option TypedExpr) → in_each (option_map (λ z. z.tree) x) ≡ in_option x
+each_in None = refl
+each_in (Some x) = refl
+
+for_does : (line : ℕ) (slots : List Slot) (t : Stmt) (x y : Option TypedExpr) (b : Stmt)
+    → WhereGood (λ z. in_stmt z ≡ in_stmt t ++ in_rest (x, (y, b))) (judged line (for_loop line slots t x y b))
+for_does line slots t x y b =
+    let uses : List SlotUse = in_stmt t ++ in_rest (x, (y, b)) in
+    judged_good (λ z. in_stmt z ≡ uses) line _
+    (fine_by (λ z. in_stmt z ≡ uses) (is_test (option_map (λ z. z.of_type) x)) (Fine _) TYPES_DIFFER []
+    (ap (λ u. in_stmt t ++ u) (append-nil _ ∙ ap₂ (λ v w. v ++ (w ++ in_stmt b)) (test_in x) (each_in y))))
+
+-- ---- groups of `switch`
+
+abbrev in_labels : List (Option Number) → List SlotUse
+in_labels ns = []
+
+labels_stand : (s : Scope) (k : Known) → Follows s k → (all : List Label) → Stands in_labels [] s s k (labels s.variables all)
+labels_stand s k f all = by (labels s.variables all)
+  where
+    by : (r : Checked (List (Option Number))) → Stands in_labels [] s s k r
+    by (Good ns) = record { good = same_scope in_labels [] s k ns f refl refl }
+    by (Bad e) = record { good = tt }
+
+abbrev in_one_group : TypedGroup → List SlotUse
+in_one_group g = in_list g.body
+
+abbrev in_all_groups : List TypedGroup → List SlotUse
+in_all_groups gs = in_groups (groups_of gs)
+
+switched_does : (line : ℕ) (t : ValueType) (e : Expr) (gs : List TypedGroup)
+    → WhereFine (λ z. in_stmt z ≡ in_expr e ++ in_all_groups gs) (switched line t e gs)
+switched_does line (type_of.Number kind) e gs = refl
+switched_does line _ e gs = tt
 
 perl_word_does : (line : ℕ) (w : PerlWord) → WhereFine (Doing in_stmt []) (perl_word line w)
 perl_word_does line word.XsReturnYes = refl
 perl_word_does line _ = tt
 
-registered_does : (w : Where) (full name : List ℕ) (o : Option ℕ) → WhereFine (Doing in_stmt []) (registered w full name o)
-registered_does w full name None = tt
-registered_does w full name (Some i) = fine_by (Doing in_stmt []) w.in_boot (Fine _) _ _ refl
+registered_does : (w : Where) (full name : List ℕ) (keeps : Bool) (o : Option ℕ) → WhereFine (Doing in_stmt []) (registered w full name keeps o)
+registered_does w full name keeps None = tt
+registered_does w full name keeps (Some i) = fine_by (Doing in_stmt []) w.in_boot (Fine _) _ _ refl
 
-module _ (names : FileNames) (w : Where) where
-  perl_does : (line : ℕ) (p : PerlForm) → WhereFine (Doing in_stmt []) (perl names w line p)
-  perl_does line (form.Word v) = perl_word_does line v
-  perl_does line (form.NewXs keeps full name) = fine_unless (Doing in_stmt []) keeps _ _ _ (registered_does w full name (index_of names.functions name))
-  perl_does line _ = tt
+unused_does : (b : Bool) (code : ℕ) (name : List ℕ) → WhereFine (Doing in_stmt []) (cond b (Fine nothing) (Wrong code name))
+unused_does true code name = refl
+unused_does false code name = tt
+
+module _ (names : FileNames) where
+  perl_does : (w : Where) (vs : List Local) (line : ℕ) (p : PerlForm) → WhereFine (Doing in_stmt []) (perl names w vs line p)
+  perl_does w vs line (form.Word v) = perl_word_does line v
+  perl_does w vs line (form.NewXs keeps full name) = registered_does w full name keeps (index_of names.functions name)
+  perl_does w vs line (form.SetIndex literal) = fine_by (Doing in_stmt []) w.in_boot (Fine _) _ _ refl
+  perl_does w vs line (form.Unused name) = unused_does _ _ name
+  perl_does w vs line _ = tt
 
   mutual
     unfolding stmt scope_behind
 
-    stmt_stands : (s : Scope) (k : Known) → Follows s k → (t : StmtTree)
+    stmt_stands : (w : Where) (s : Scope) (k : Known) → Follows s k → (t : StmtTree)
         → Stands in_stmt (meant_in_stmt k t) s (scope_behind s t) (known_behind k t) (stmt names w s t)
-    stmt_stands s k f (statement.Block line body) =
-        block_stands s k f (scopes_behind s body) (known_behind_all k body) _ (stmts names w s body) (scopes_grown s body) (stmts_stand s k f body)
-    stmt_stands s k f (statement.Empty line) = record { good = same_scope in_stmt [] s k _ f refl refl }
-    stmt_stands s k f (statement.Declare d) = declaration_stands s k f d.line d.base d.names
-    stmt_stands s k f (statement.Effect line e) = effect_stands s k f line _ (expr s.variables e) (expr_does s.variables k.names f.agree e)
-    stmt_stands s k f (statement.If line test t) =
-        if_stands s k f line (scope_behind s t) (known_behind k t) _ _ (expr s.variables test) (stmt names w s t) (expr_does s.variables k.names f.agree test)
-        (stmt_stands s k f t)
-    stmt_stands s k f (statement.Perl line p) = perl_stands s k f line (perl names w line p) (perl_does line p)
-    -- not built yet
-    stmt_stands s k f _ = record { good = tt }
+    stmt_stands w s k f (statement.Block line body) =
+        let inner : Scope = scopes_behind s body in
+        outside_stands s k f in_stmt inner (known_behind_all k body) _ _ (scopes_grown s body)
+        (one_stands in_list in_stmt (meant_in_stmts k body) s inner (known_behind_all k body) (stmts names w s body) _ (stmts_stand w s k f body)
+        (λ ts. record { good = refl }))
+    stmt_stands w s k f (statement.Empty line) = record { good = same_scope in_stmt [] s k _ f refl refl }
+    stmt_stands w s k f (statement.Declare d) = declaration_stands s k f d.base d.names
+    stmt_stands w s k f (statement.Effect line e) =
+        one_stands in_typed in_stmt (meant_in_expr k.names e) s s k (expr s.variables e) _ (test_stands s k f e)
+        (λ x. record { good = effect_in line x.tree (quits x.tree) })
+    stmt_stands w s k f (statement.If line test t) =
+        both_stand in_typed in_stmt in_stmt s s (scope_behind s t) k (known_behind k t) _ _ (expr s.variables test) (stmt names w s t) _
+        (test_stands s k f test) (λ g. stmt_stands w s k g t)
+        (λ x y. condition_does line x _ _ (ap (λ u. in_expr x.tree ++ u) (append-nil (in_stmt y))))
+    stmt_stands w s k f (statement.IfElse line test t other) =
+        let mid : Scope = scope_behind s t in
+        let after : Scope = scope_behind mid other in
+        let knows : Known = known_behind k t in
+        both_stand in_typed in_two in_stmt s s after k (known_behind knows other) _ _ (expr s.variables test) _ _ (test_stands s k f test)
+        (λ g. both_stand in_stmt in_stmt in_two s mid after knows (known_behind knows other) _ _ (stmt names w s t) (stmt names w mid other) _
+        (stmt_stands w s k g t) (λ h. stmt_stands w mid knows h other) (λ a b. record { good = refl }))
+        (λ x p. condition_does line x _ _ refl)
+    stmt_stands w s k f (statement.While line test t) =
+        both_stand in_typed in_stmt in_stmt s s (scope_behind s t) k (known_behind k t) _ _ (expr s.variables test) (stmt names (in_turn w) s t) _
+        (test_stands s k f test) (λ g. stmt_stands (in_turn w) s k g t) (λ x y. condition_does line x _ _ refl)
+    stmt_stands w s k f (statement.DoWhile line t test) =
+        let mid : Scope = scope_behind s t in
+        let knows : Known = known_behind k t in
+        both_stand in_stmt in_typed in_stmt s mid mid knows knows _ _ (stmt names (in_turn w) s t) (expr mid.variables test) _ (stmt_stands (in_turn w) s k f t)
+        (λ g. test_stands mid knows g test) (λ y x. condition_does line x _ _ (ap (λ u. in_stmt y ++ u) (append-nil (in_expr x.tree))))
+    stmt_stands w s k f (statement.Break line) =
+        still_stands s k f line _ (fine_by (Doing in_stmt []) (w.in_loop || w.in_switch) (Fine (typed_tree.Break line)) WORD_NOT_ALLOWED _ refl)
+    stmt_stands w s k f (statement.Continue line) =
+        still_stands s k f line _ (fine_by (Doing in_stmt []) w.in_loop (Fine (typed_tree.Continue line)) WORD_NOT_ALLOWED _ refl)
+    stmt_stands w s k f (statement.Return line value) = end_stands w s k f line value
+    stmt_stands w s k f (statement.Perl line p) = still_stands s k f line (perl names w s.variables line p) (perl_does w s.variables line p)
+    stmt_stands w s k f (statement.For line head t) =
+        let inner : Scope = first_behind s head.first in
+        let after : Scope = scope_behind inner t in
+        let k1 : Known = known_first k head.first in
+        let k2 : Known = known_behind k1 t in
+        outside_stands s k f in_stmt after k2 _ _ (grown_trans s inner after (first_grown s head.first) (scope_grown inner t))
+        (both_stand in_stmt in_rest in_stmt s inner after k1 k2 _ _ (first_part s head.first) _ _ (first_stands s k f head.first)
+        (λ g. both_stand in_option in_turns in_rest inner inner after k1 k2 _ _ (option_expr inner.variables head.test) _ _ (option_stands inner k1 g head.test)
+        (λ h. both_stand in_option in_stmt in_turns inner inner after k1 k2 _ _ (option_expr inner.variables head.step) (stmt names (in_turn w) inner t) _
+        (option_stands inner k1 h head.step) (λ i. stmt_stands (in_turn w) inner k1 i t) (λ a b. record { good = refl }))
+        (λ a b. record { good = refl }))
+        (λ a p. for_does line (declared_in s after) a p.0 p.1.0 p.1.1))
+    stmt_stands w s k f (statement.Switch line e all) =
+        both_stand in_typed in_all_groups in_stmt s s (groups_behind s all) k (known_behind_groups k all) _ _ (expr s.variables e)
+        (groups names (in_group w) s all) _ (test_stands s k f e) (λ g. groups_stand (in_group w) s k g all)
+        (λ x gs. judged_good _ line _ (switched_does line x.of_type x.tree gs))
 
-    stmts_stand : (s : Scope) (k : Known) → Follows s k → (all : StmtTrees)
+    stmts_stand : (w : Where) (s : Scope) (k : Known) → Follows s k → (all : StmtTrees)
         → Stands in_list (meant_in_stmts k all) s (scopes_behind s all) (known_behind_all k all) (stmts names w s all)
-    stmts_stand s k f statement.NoStmts = record { good = same_scope in_list [] s k [] f refl refl }
-    stmts_stand s k f (statement.MoreStmts t rest) =
-        more_stands s (scope_behind s t) (scopes_behind (scope_behind s t) rest) (known_behind k t) (known_behind_all (known_behind k t) rest) _ _
-        (stmt names w s t) (stmts names w (scope_behind s t) rest) (stmt_stands s k f t)
-        (λ g. stmts_stand (scope_behind s t) (known_behind k t) g rest)
+    stmts_stand w s k f statement.NoStmts = record { good = same_scope in_list [] s k [] f refl refl }
+    stmts_stand w s k f (statement.MoreStmts t rest) =
+        both_stand in_stmt in_list in_list s (scope_behind s t) (scopes_behind (scope_behind s t) rest) (known_behind k t)
+        (known_behind_all (known_behind k t) rest) _ _ (stmt names w s t) (stmts names w (scope_behind s t) rest) _ (stmt_stands w s k f t)
+        (λ g. stmts_stand w (scope_behind s t) (known_behind k t) g rest) (λ x xs. record { good = refl })
+
+    groups_stand : (w : Where) (s : Scope) (k : Known) → Follows s k → (all : GroupTrees)
+        → Stands in_all_groups (meant_in_groups k all) s (groups_behind s all) (known_behind_groups k all) (groups names w s all)
+    groups_stand w s k f statement.NoGroups = record { good = same_scope in_all_groups [] s k [] f refl refl }
+    groups_stand w s k f (statement.MoreGroups line ls body rest) =
+        let mid : Scope = scopes_behind s body in
+        let knows : Known = known_behind_all k body in
+        both_stand in_one_group in_all_groups in_all_groups s mid (groups_behind mid rest) knows (known_behind_groups knows rest) _ _ _
+        (groups names w mid rest) _
+        (both_stand in_labels in_list in_one_group s s mid k knows [] _ (labels s.variables ls) (stmts names w s body) _ (labels_stand s k f ls)
+        (λ g. stmts_stand w s k g body) (λ ns ts. record { good = refl }))
+        (λ g. groups_stand w mid knows g rest) (λ x xs. record { good = refl })
 
 -- ---- functions
 

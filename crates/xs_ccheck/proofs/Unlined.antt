@@ -1,18 +1,19 @@
 -- Files that are equal but for lines have the same code but for places, or none has code.
-use Rattle.std.proofs.Common.{◌≡◌, ℕ, zero, ◌+◌, suc, subst, Bool, true, false, cond, List, [], ◌∷◌, ◌++◌, length, map, take, drop, codes, Option, None, Some, Result, Ok, Err, refl, sym, ap, ap₂, ◌∙◌}
+use Rattle.std.proofs.Common.{◌≡◌, ℕ, ◌+◌, codes, subst, Bool, true, false, cond, List, [], ◌∷◌, length, map, drop, Option, None, Some, Result, Ok, Err, refl, sym, ap, ap₂, ◌∙◌}
 use Rattle.std.specs.Option.{option_map, is_some}
-use Rattle.std.specs.Map.{lookup}
 use Rattle.std.specs.Str.{bytes_eq}
-use Rattle.std.specs.Prelude.{◌&&◌, nat_eq}
-use Rattle.std.proofs.lemmas.List.{take-map, drop-map, length-map, map-append}
+use Rattle.std.specs.Prelude.{◌&&◌, ◌||◌, nat_eq}
+use Rattle.std.proofs.lemmas.List.{map-id, take-map, drop-map, length-map, map-append}
 use Rattle.std.proofs.lemmas.Option.{same_Some}
 use Rattle.xs_base.specs.declared.fault.Fault.{Fault}
-use Rattle.xs_base.specs.declared.fault_codes.TheConstants.{DECLARED_TWICE, WRONG_NUMBER_OF_ARGUMENTS}
+use Rattle.xs_base.specs.declared.fault_codes.TheConstants.{DECLARED_TWICE, TYPES_DIFFER, WRONG_NUMBER_OF_ARGUMENTS, UNKNOWN_NAME}
 use Rattle.xs_cinput.specs.declared.tree.BinaryOp.TheVariants as c
 use Rattle.xs_cexpr.specs.ExpressionTree as syntax_expr
 use Rattle.xs_cexpr.specs.ExpressionTree.{ExprTree, ExprTrees, PlaceTree, VarPlace, StPlace, unlined_expr, unlined_exprs, unlined_place}
 use Rattle.xs_cstmt.specs.StatementTree as syntax_stmt
-use Rattle.xs_cstmt.specs.StatementTree.{DeclaratorTree, StmtTree, StmtTrees, unlined_declarator, unlined_stmt, unlined_stmts}
+use Rattle.xs_cstmt.specs.StatementTree.{DeclaratorTree, FirstTree, StmtTree, StmtTrees, GroupTrees, unlined_declarator, unlined_first, unlined_groups, unlined_label, unlined_stmt, unlined_stmts}
+use Rattle.xs_cstmt.specs.declared.tree.Label.{Label}
+use Rattle.xs_cstmt.specs.declared.tree.Label.TheVariants as label
 use Rattle.xs_cstmt.specs.declared.tree.PerlForm.{PerlForm}
 use Rattle.xs_cstmt.specs.declared.tree.PerlForm.TheVariants as form
 use Rattle.xs_cstmt.specs.declared.tree.PerlWord.{PerlWord}
@@ -20,19 +21,21 @@ use Rattle.xs_cstmt.specs.declared.tree.PerlWord.TheVariants as word
 use Rattle.xs_csyn.specs.declared.tree.Define.{Define}
 use Rattle.xs_csyn.specs.FileTree.{XsFunTree, ItemTree, XsFunItem, FileTree, unlined, unlined_define, unlined_item}
 use Rattle.xs_values.specs.declared.operator.Op.{Op}
+use Rattle.xs_values.specs.Kinds.{promoted}
+use Rattle.xs_values.specs.Numbers.{Number}
 use Rattle.xs_perlapi.specs.declared.row.ApiType.{ApiType}
-use Rattle.xs_perlapi.specs.Table.{RowCall, is_interface_word, row_named}
+use Rattle.xs_perlapi.specs.Table.{RowCall, row_named}
 use Rattle.xs_ctree.specs.declared.value_type.Slot.{Slot}
 use Rattle.xs_ctree.specs.declared.value_type.ValueType.{ValueType}
 use Rattle.xs_ctree.specs.declared.value_type.ValueType.TheVariants as type_of
 use Rattle.xs_perlapi.specs.declared.row.Row.TheVariants.{Entry}
-use Rattle.xs_ctree.specs.TypedTree.{Expr, Exprs, NoExprs, MoreExprs, Literal, Variable, ItemCount, Binary, Cast, Assign, Api, Usage, Target, ToItem, Stmt, MoreStmts, Block, Effect, Declare, If, Quit, nothing, Function, Code, exprs_of, stmts_of, bare, bare_expr, bare_exprs, bare_function, bare_slot, bare_stmt, bare_stmts, bare_target}
+use Rattle.xs_ctree.specs.TypedTree.{Expr, NoExprs, MoreExprs, Binary, Cast, Assign, Api, ToItem, When, Stmt, NoStmts, MoreStmts, MoreGroups, Block, Effect, Declare, If, Loop, Switch, Break, Continue, Return, Give, Quit, nothing, Code, exprs_of, stmts_of, bare, bare_expr, bare_exprs, bare_function, bare_groups, bare_slot, bare_stmt, bare_stmts, bare_target, bare_test}
 use Rattle.xs_ccheck.specs.declared.names.Where.{Where}
-use Rattle.xs_ccheck.specs.Checked.{Checked, Good, Bad, answer, behind, both, more, Judged, Fine, Wrong, judged, unbuilt}
-use Rattle.xs_ccheck.specs.ExprTyping.{TypedExpr, TypedTarget, all_fit, as_typed, assigned, called, cast, expr, exprs, is_cv, item_place, name_meant, operated, other_name, place_in, row_judged, text_in, typed, usage, usage_of, usage_word, variable_place}
+use Rattle.xs_ccheck.specs.Checked.{Checked, Good, Bad, answer, behind, both, four, more, Judged, Fine, Wrong, judged, unbuilt}
+use Rattle.xs_ccheck.specs.ExprTyping.{TypedExpr, TypedTarget, all_fit, as_typed, assigned, called, cast, expr, exprs, is_cv, item_place, name_meant, operated, option_expr, place_in, row_judged, text_in, typed, usage, usage_of, usage_word, variable_place, unknown}
 use Rattle.xs_ccheck.specs.FileTyping.{behind_entry, code_meant, defines, entry_form, entry_line, entry_of, entry_word, function, function_done, function_from, function_judged, functions, is_boot_name, is_earlier, item, item_name, names_of, sort_of, typed_of, where_in, with_entry}
-use Rattle.xs_ccheck.specs.Scopes.{Local, Scope, beginning, declarators_behind, is_in_use, knowing, named, new_variable, next_slot, scope_behind, scopes_behind, variable_of, with_variable}
-use Rattle.xs_ccheck.specs.StmtTyping.{FileNames, conditional, declaration, declarator, declared, effect, index_of, perl, perl_word, quits, registered, stmt, stmts}
+use Rattle.xs_ccheck.specs.Scopes.{Local, Scope, beginning, declared_in, declarators_behind, first_behind, groups_behind, is_in_use, knowing, name_behind, new_variable, next_slot, scope_behind, scopes_behind, variable_of, with_variable}
+use Rattle.xs_ccheck.specs.StmtTyping.{FileNames, TypedGroup, begun, conditional, declaration, declarator, declarators, declared, effect, first_part, for_loop, function_end, groups, groups_of, in_group, in_order, in_turn, index_of, is_given, is_test, label_number, labelled, labels, line_of_label, may_return, perl, perl_word, quits, stated, stmt, stmts, switched, test_of, typed_group, unset, unused}
 use Rattle.xs_ccheck.specs.TypeNames.{declared_type, type_named}
 use Rattle.xs_ccheck.specs.ValueTypes.{goes_into, is_condition, is_number, is_operand, of_cast, of_two, result_type}
 
@@ -312,6 +315,11 @@ outside_bare scope inner =
     ap (λ n. knowing n (bare_scope inner)) (length-map scope.variables bare_local)
     ∙ ap (λ vs. record { variables = vs; slots = map bare_slot inner.slots }) (take-map bare_local (length scope.variables) inner.variables)
 
+first_bare : (scope : Scope) (first : FirstTree) → first_behind (bare_scope scope) (unlined_first first) ≡ bare_scope (first_behind scope first)
+first_bare scope syntax_stmt.NoFirst = refl
+first_bare scope (syntax_stmt.FirstDeclare d) = declarators_bare d.base scope d.names
+first_bare scope (syntax_stmt.FirstEffect e) = refl
+
 mutual
   unfolding scope_behind
 
@@ -320,6 +328,16 @@ mutual
       ap (knowing (length (bare_scope scope).variables)) (all_behind_bare scope body) ∙ outside_bare scope (scopes_behind scope body)
   behind_bare scope (syntax_stmt.Declare d) = declarators_bare d.base scope d.names
   behind_bare scope (syntax_stmt.If line test s) = behind_bare scope s
+  behind_bare scope (syntax_stmt.IfElse line test s other) =
+      ap (λ z. scope_behind z (unlined_stmt other)) (behind_bare scope s) ∙ behind_bare (scope_behind scope s) other
+  behind_bare scope (syntax_stmt.While line test s) = behind_bare scope s
+  behind_bare scope (syntax_stmt.DoWhile line s test) = behind_bare scope s
+  behind_bare scope (syntax_stmt.For line head s) =
+      let inner : Scope = first_behind scope head.first in
+      ap (knowing (length (bare_scope scope).variables))
+      (ap (λ z. scope_behind z (unlined_stmt s)) (first_bare scope head.first) ∙ behind_bare inner s)
+      ∙ outside_bare scope (scope_behind inner s)
+  behind_bare scope (syntax_stmt.Switch line e all) = groups_bare scope all
   behind_bare scope _ = refl
 
   all_behind_bare : (scope : Scope) (body : StmtTrees) → scopes_behind (bare_scope scope) (unlined_stmts body) ≡ bare_scope (scopes_behind scope body)
@@ -327,17 +345,16 @@ mutual
   all_behind_bare scope (syntax_stmt.MoreStmts s rest) =
       ap (λ z. scopes_behind z (unlined_stmts rest)) (behind_bare scope s) ∙ all_behind_bare (scope_behind scope s) rest
 
+  groups_bare : (scope : Scope) (all : GroupTrees) → groups_behind (bare_scope scope) (unlined_groups all) ≡ bare_scope (groups_behind scope all)
+  groups_bare scope syntax_stmt.NoGroups = refl
+  groups_bare scope (syntax_stmt.MoreGroups line labels body rest) =
+      ap (λ z. groups_behind z (unlined_groups rest)) (all_behind_bare scope body) ∙ groups_bare (scopes_behind scope body) rest
+
 -- ---- statements
 
 quits_bare : (e : Expr) → quits (bare_expr e) ≡ quits e
-quits_bare (Literal n) = refl
-quits_bare (Variable x) = refl
-quits_bare ItemCount = refl
-quits_bare (Cast t e) = refl
-quits_bare (Binary op a b) = refl
-quits_bare (Assign at to e) = refl
 quits_bare (Api at r es) = refl
-quits_bare (Usage at text) = refl
+quits_bare _ = refl
 
 by_quits : (line : ℕ) (e : Expr) (b : Bool) → bare_stmt (cond b (Quit line e) (Effect e)) ≡ cond b (Quit 0 (bare_expr e)) (Effect (bare_expr e))
 by_quits line e true = refl
@@ -364,69 +381,255 @@ slots_bare scope inner =
     twice [] = refl
     twice (v ∷ vs) = ap (λ ss. bare_slot v.slot ∷ ss) (twice vs)
 
-conditional_alike : (line : ℕ) (x y : TypedExpr) (s t : Stmt) → bare_typed x ≡ bare_typed y → bare_stmt s ≡ bare_stmt t
-    → AlikeIn bare_stmt (conditional line x s) (conditional 0 y t)
-conditional_alike line x y s t e g =
-    when_alike bare_stmt _ _ _ _ _ _ (ap is_condition (same_type x y e)) (ap₂ (λ z w. If 0 z w nothing) (same_tree x y e) g)
+conditional_alike : (x y : TypedExpr) (s t : Stmt) → bare_typed x ≡ bare_typed y → bare_stmt s ≡ bare_stmt t
+    → AlikeIn bare_stmt (conditional x s) (conditional y t)
+conditional_alike x y s t e g = when_alike bare_stmt _ _ s t _ _ (ap is_condition (same_type x y e)) g
 
-declared_alike : (scope : Scope) (line : ℕ) (name : List ℕ) (t : Option ValueType)
-    → AlikeIn bare_stmt (declared scope line name t) (declared (bare_scope scope) 0 name t)
-declared_alike scope line name None = record { is = refl }
-declared_alike scope line name (Some t) =
-    subst (λ b. AlikeIn bare_stmt (declared scope line name (Some t)) (cond b (Wrong DECLARED_TWICE name) (Fine (Declare 0 (length (bare_scope scope).slots)))))
-    (sym (use_bare scope.variables name))
-    (by_test bare_stmt (is_in_use scope.variables name) _ _ _ _ (wrongs bare_stmt _ _ _ _)
-    (fine bare_stmt _ _ (ap (Declare 0) (sym (length-map scope.slots bare_slot)))))
+end_alike : (w : Where) (scope : Scope) (line : ℕ) (value : Option ExprTree)
+    → Alike bare_stmt (function_end w scope line value) (function_end w (bare_scope scope) 0 (option_map unlined_expr value))
+end_alike w scope line None =
+    judged_alike bare_stmt line 0 _ _ (when_alike bare_stmt (may_return w.result None) _ (Return line) (Return 0) _ _ refl refl)
+end_alike w scope line (Some value) =
+    after bare_typed bare_stmt _ _ _ _ (expr_alike scope.variables value)
+    (λ x y e. judged_alike bare_stmt line 0 _ _
+    (when_alike bare_stmt _ _ (Give line x.tree) (Give 0 y.tree) _ _ (ap (λ t. may_return w.result (Some t)) (same_type x y e))
+    (ap (Give 0) (same_tree x y e))))
 
-declarator_alike : (line : ℕ) (scope : Scope) (base : List ℕ) (d : DeclaratorTree) (value : Option ExprTree)
-    → Alike bare_stmt (declarator line scope base d value) (declarator 0 (bare_scope scope) base (unlined_declarator d) (option_map unlined_expr value))
-declarator_alike line scope base d None = judged_alike bare_stmt d.line 0 _ _ (declared_alike scope d.line d.name (type_named base d.stars))
-declarator_alike line scope base d (Some value) = record { is = refl }
+-- two statements
+abbrev bare_two : Stmt × Stmt → Stmt × Stmt
+bare_two p = (bare_stmt p.0, bare_stmt p.1)
 
-declaration_alike : (line : ℕ) (scope : Scope) (base : List ℕ) (ds : List DeclaratorTree)
-    → Alike bare_stmt (declaration line scope base ds) (declaration 0 (bare_scope scope) base (map unlined_declarator ds))
-declaration_alike line scope base [] = record { is = refl }
-declaration_alike line scope base (d ∷ []) = declarator_alike line scope base d d.value
-declaration_alike line scope base (d ∷ e ∷ ds) = record { is = refl }
+declared_bare : (scope : Scope) (name : List ℕ) (o given : Option ValueType) → declared (bare_scope scope) name o given ≡ declared scope name o given
+declared_bare scope name None given = refl
+declared_bare scope name (Some t) given =
+    ap (λ b. cond (is_given given t) (cond b (Wrong DECLARED_TWICE name) (Fine t)) (Wrong TYPES_DIFFER [])) (use_bare scope.variables name)
+
+stated_alike : (f g : ValueType → Stmt) (j k : Judged ValueType) → ((t : ValueType) → bare_stmt (f t) ≡ bare_stmt (g t)) → j ≡ k
+    → AlikeIn bare_stmt (stated f j) (stated g k)
+stated_alike f g j k same e = subst (λ l. AlikeIn bare_stmt (stated f j) (stated g l)) e (one j)
+  where
+    one : (l : Judged ValueType) → AlikeIn bare_stmt (stated f l) (stated g l)
+    one (Fine t) = record { is = ap Some (same t) }
+    one (Wrong code word) = record { is = refl }
+
+declarator_alike : (base : List ℕ) (scope : Scope) (d : DeclaratorTree) (value : Option ExprTree)
+    → Alike bare_stmt (declarator base scope d value) (declarator base (bare_scope scope) (unlined_declarator d) (option_map unlined_expr value))
+declarator_alike base scope d None =
+    judged_alike bare_stmt d.line 0 _ _
+    (stated_alike (unset d.line (length scope.slots)) (unset 0 (length (bare_scope scope).slots)) _ _
+    (λ t. ap (Declare 0) (sym (length-map scope.slots bare_slot))) (sym (declared_bare scope d.name (type_named base d.stars) None)))
+declarator_alike base scope d (Some value) =
+    after bare_typed bare_stmt _ _ _ _ (expr_alike scope.variables value)
+    (λ x y e. judged_alike bare_stmt d.line 0 _ _
+    (stated_alike (begun d.line (length scope.slots) x.tree) (begun 0 (length (bare_scope scope).slots) y.tree) _ _
+    (λ t. ap₂ (λ n z. begun 0 n z t) (sym (length-map scope.slots bare_slot)) (same_tree x y e))
+    (ap (λ u. declared scope d.name (type_named base d.stars) (Some u)) (same_type x y e)
+    ∙ sym (declared_bare scope d.name (type_named base d.stars) (Some y.of_type)))))
+
+declarators_alike : (base : List ℕ) (scope : Scope) (ds : List DeclaratorTree)
+    → Alike (map bare_stmt) (declarators base scope ds) (declarators base (bare_scope scope) (map unlined_declarator ds))
+declarators_alike base scope [] = record { is = refl }
+declarators_alike base scope (d ∷ ds) =
+    more_alike bare_stmt _ _ _ _ (declarator_alike base scope d d.value)
+    (subst (λ z. Alike (map bare_stmt) (declarators base (name_behind base scope d) ds) (declarators base z (map unlined_declarator ds)))
+    (sym (with_bare scope d.line d.name (declared_type base d.stars))) (declarators_alike base (name_behind base scope d) ds))
+
+in_order_bare : (ts : List Stmt) → bare_stmt (in_order ts) ≡ in_order (map bare_stmt ts)
+in_order_bare [] = refl
+in_order_bare (t ∷ []) = refl
+in_order_bare (t ∷ u ∷ ts) = ap (Block []) (stmts_bare (t ∷ u ∷ ts))
+
+in_order_alike : (ss ts : List Stmt) → map bare_stmt ss ≡ map bare_stmt ts → Alike bare_stmt (Good (in_order ss)) (Good (in_order ts))
+in_order_alike ss ts e = record { is = ap Some (in_order_bare ss ∙ ap in_order e ∙ sym (in_order_bare ts)) }
+
+declaration_alike : (base : List ℕ) (scope : Scope) (ds : List DeclaratorTree)
+    → Alike bare_stmt (declaration base scope ds) (declaration base (bare_scope scope) (map unlined_declarator ds))
+declaration_alike base scope ds =
+    after (map bare_stmt) bare_stmt _ _ _ _ (declarators_alike base scope ds) (λ ss ts e. in_order_alike ss ts e)
+
+-- ---- heads of `for`
+
+first_alike : (scope : Scope) (first : FirstTree)
+    → Alike bare_stmt (first_part scope first) (first_part (bare_scope scope) (unlined_first first))
+first_alike scope syntax_stmt.NoFirst = record { is = refl }
+first_alike scope (syntax_stmt.FirstDeclare d) = declaration_alike d.base scope d.names
+first_alike scope (syntax_stmt.FirstEffect e) =
+    after bare_typed bare_stmt _ _ _ _ (expr_alike scope.variables e) (λ x y h. record { is = ap (λ z. Some (Effect z)) (same_tree x y h) })
+
+abbrev bare_option : Option TypedExpr → Option TypedExpr
+bare_option o = option_map bare_typed o
+
+option_alike : (vs : List Local) (e : Option ExprTree)
+    → Alike bare_option (option_expr vs e) (option_expr (bare_locals vs) (option_map unlined_expr e))
+option_alike vs None = record { is = refl }
+option_alike vs (Some e) =
+    after bare_typed bare_option _ _ _ _ (expr_alike vs e) (λ x y h. record { is = ap (λ z. Some (Some z)) h })
+
+types_bare : (x : Option TypedExpr) → option_map (λ z. z.of_type) (bare_option x) ≡ option_map (λ z. z.of_type) x
+types_bare None = refl
+types_bare (Some x) = refl
+
+test_bare : (x : Option TypedExpr) → bare_test (test_of x) ≡ test_of (bare_option x)
+test_bare None = refl
+test_bare (Some x) = refl
+
+each_bare : (x : Option TypedExpr) → option_map bare_expr (option_map (λ z. z.tree) x) ≡ option_map (λ z. z.tree) (bare_option x)
+each_bare None = refl
+each_bare (Some x) = refl
+
+abbrev bare_turns : Option TypedExpr × Stmt → Option TypedExpr × Stmt
+bare_turns p = (bare_option p.0, bare_stmt p.1)
+
+abbrev bare_rest : Option TypedExpr × (Option TypedExpr × Stmt) → Option TypedExpr × (Option TypedExpr × Stmt)
+bare_rest p = (bare_option p.0, bare_turns p.1)
+
+for_alike : (line : ℕ) (own other : List Slot) (s t : Stmt) (p q : Option TypedExpr × (Option TypedExpr × Stmt)) → map bare_slot own ≡ map bare_slot other
+    → bare_stmt s ≡ bare_stmt t → bare_rest p ≡ bare_rest q
+    → AlikeIn bare_stmt (for_loop line own s p.0 p.1.0 p.1.1) (for_loop 0 other t q.0 q.1.0 q.1.1)
+for_alike line own other s t p q slots first rest =
+    let test : bare_option p.0 ≡ bare_option q.0 = ap (λ z. z.0) rest in
+    let each : bare_option p.1.0 ≡ bare_option q.1.0 = ap (λ z. z.1.0) rest in
+    let body : bare_stmt p.1.1 ≡ bare_stmt q.1.1 = ap (λ z. z.1.1) rest in
+    let tests : bare_test (test_of p.0) ≡ bare_test (test_of q.0) = test_bare p.0 ∙ ap test_of test ∙ sym (test_bare q.0) in
+    let steps : option_map bare_expr (option_map (λ z. z.tree) p.1.0) ≡ option_map bare_expr (option_map (λ z. z.tree) q.1.0) =
+    each_bare p.1.0 ∙ ap (option_map (λ z. z.tree)) each ∙ sym (each_bare q.1.0) in
+    when_alike bare_stmt _ _
+    (Block own (stmts_of (s ∷ Loop line true (test_of p.0) (option_map (λ z. z.tree) p.1.0) p.1.1 ∷ [])))
+    (Block other (stmts_of (t ∷ Loop 0 true (test_of q.0) (option_map (λ z. z.tree) q.1.0) q.1.1 ∷ []))) _ _
+    (ap is_test (sym (types_bare p.0) ∙ ap (option_map (λ z. z.of_type)) test ∙ types_bare q.0))
+    (ap₂ Block slots (ap₂ MoreStmts first
+    (ap (λ l. MoreStmts l NoStmts) (ap₂ (λ f z. f z) (ap₂ (λ u v. Loop 0 true u v) tests steps) body))))
+
+-- ---- groups of `switch`
+
+label_alike : (vs : List Local) (l : Label)
+    → AlikeIn (λ (n : Option Number). n) (label_number vs l) (label_number (bare_locals vs) (unlined_label l))
+label_alike vs (label.Int line value) = record { is = refl }
+label_alike vs (label.Name line name) =
+    subst (λ o. AlikeIn (λ (n : Option Number). n) (labelled (name_meant name (variable_of vs name))) (labelled (name_meant name o))) (sym (found_bare vs name))
+    (by (variable_of vs name))
+  where
+    by : (o : Option Slot) → AlikeIn (λ (n : Option Number). n) (labelled (name_meant name o)) (labelled (name_meant name (option_map bare_slot o)))
+    by None = record { is = refl }
+    by (Some v) = record { is = refl }
+label_alike vs (label.Default line) = record { is = refl }
+
+labels_alike : (vs : List Local) (all : List Label)
+    → Alike (map (λ (n : Option Number). n)) (labels vs all) (labels (bare_locals vs) (map unlined_label all))
+labels_alike vs [] = record { is = refl }
+labels_alike vs (l ∷ rest) =
+    more_alike (λ (n : Option Number). n) _ _ _ _ (judged_alike (λ (n : Option Number). n) (line_of_label l) _ _ _ (label_alike vs l)) (labels_alike vs rest)
+
+abbrev bare_group : TypedGroup → TypedGroup
+bare_group g = typed_group g.labels (map bare_stmt g.body)
+
+all_groups_bare : (gs : List TypedGroup) → bare_groups (groups_of gs) ≡ groups_of (map bare_group gs)
+all_groups_bare [] = refl
+all_groups_bare (g ∷ gs) = ap₂ (MoreGroups g.labels) (stmts_bare g.body) (all_groups_bare gs)
+
+switched_alike : (line : ℕ) (t : ValueType) (e d : Expr) (gs hs : List TypedGroup) → bare_expr e ≡ bare_expr d → map bare_group gs ≡ map bare_group hs
+    → AlikeIn bare_stmt (switched line t e gs) (switched 0 t d hs)
+switched_alike line (type_of.Number kind) e d gs hs same all =
+    record { is = ap Some (ap₂ (Switch 0 (promoted kind)) same (all_groups_bare gs ∙ ap groups_of all ∙ sym (all_groups_bare hs))) }
+switched_alike line _ e d gs hs same all = record { is = refl }
 
 perl_word_alike : (line : ℕ) (w : PerlWord) → AlikeIn bare_stmt (perl_word line w) (perl_word 0 w)
 perl_word_alike line word.XsReturnYes = record { is = refl }
 perl_word_alike line _ = record { is = refl }
 
-module _ (names : FileNames) (w : Where) where
-  perl_alike : (line : ℕ) (f : PerlForm) → AlikeIn bare_stmt (perl names w line f) (perl names w 0 f)
-  perl_alike line (form.Word word) = perl_word_alike line word
-  perl_alike line _ = record { is = refl }
+module _ (names : FileNames) where
+  perl_alike : (w : Where) (vs : List Local) (line : ℕ) (f : PerlForm) → AlikeIn bare_stmt (perl names w vs line f) (perl names w (bare_locals vs) 0 f)
+  perl_alike w vs line (form.Word word) = perl_word_alike line word
+  perl_alike w vs line (form.Unused name) =
+      subst (λ b. AlikeIn bare_stmt (unused vs name)
+      (cond (bytes_eq name (codes "items") || bytes_eq name (codes "cv") || b) (Fine nothing) (unknown UNKNOWN_NAME name)))
+      (sym (ap is_some (found_bare vs name) ∙ some_bare (variable_of vs name))) (record { is = refl })
+  perl_alike w vs line _ = record { is = refl }
 
   mutual
     unfolding stmt
 
-    stmt_alike : (scope : Scope) (s : StmtTree) → Alike bare_stmt (stmt names w scope s) (stmt names w (bare_scope scope) (unlined_stmt s))
-    stmt_alike scope (syntax_stmt.Block line body) =
-        after (map bare_stmt) bare_stmt _ _ _ _ (stmts_alike scope body)
+    stmt_alike : (w : Where) (scope : Scope) (s : StmtTree) → Alike bare_stmt (stmt names w scope s) (stmt names w (bare_scope scope) (unlined_stmt s))
+    stmt_alike w scope (syntax_stmt.Block line body) =
+        after (map bare_stmt) bare_stmt _ _ _ _ (stmts_alike w scope body)
         (λ ss ts e. record {
           is = ap Some
               (ap₂ Block (slots_bare scope (scopes_behind scope body)
               ∙ ap (λ z. map bare_slot (map (λ v. v.slot) (drop (length (bare_scope scope).variables) z.variables))) (sym (all_behind_bare scope body)))
               (stmts_bare ss ∙ ap stmts_of e ∙ sym (stmts_bare ts)));
         })
-    stmt_alike scope (syntax_stmt.Empty line) = record { is = refl }
-    stmt_alike scope (syntax_stmt.Declare d) = declaration_alike d.line scope d.base d.names
-    stmt_alike scope (syntax_stmt.Effect line e) =
+    stmt_alike w scope (syntax_stmt.Empty line) = record { is = refl }
+    stmt_alike w scope (syntax_stmt.Declare d) = declaration_alike d.base scope d.names
+    stmt_alike w scope (syntax_stmt.Effect line e) =
         after bare_typed bare_stmt _ _ _ _ (expr_alike scope.variables e) (λ x y h. record { is = ap Some (effect_alike line x y h) })
-    stmt_alike scope (syntax_stmt.If line test s) =
-        after_both bare_typed bare_stmt bare_stmt _ _ _ _ _ _ (expr_alike scope.variables test) (stmt_alike scope s)
-        (λ x y s1 t1 h g. judged_alike bare_stmt line 0 _ _ (conditional_alike line x y s1 t1 h g))
-    stmt_alike scope (syntax_stmt.Perl line f) = judged_alike bare_stmt line 0 _ _ (perl_alike line f)
-    stmt_alike scope _ = record { is = refl }
+    stmt_alike w scope (syntax_stmt.If line test s) =
+        after_both bare_typed bare_stmt bare_stmt _ _ _ _ _ _ (expr_alike scope.variables test) (stmt_alike w scope s)
+        (λ x y s1 t1 h g. judged_alike bare_stmt line 0 _ _
+        (conditional_alike x y (If line x.tree s1 nothing) (If 0 y.tree t1 nothing) h (ap₂ (λ z v. If 0 z v nothing) (same_tree x y h) g)))
+    stmt_alike w scope (syntax_stmt.IfElse line test s other) =
+        after_both bare_typed bare_two bare_stmt _ _ _ _ _ _ (expr_alike scope.variables test)
+        (after_both bare_stmt bare_stmt bare_two _ _ _ _ _ _ (stmt_alike w scope s)
+        (subst (λ z. Alike bare_stmt (stmt names w (scope_behind scope s) other) (stmt names w z (unlined_stmt other))) (sym (behind_bare scope s))
+        (stmt_alike w (scope_behind scope s) other))
+        (λ a b c d h g. record { is = ap Some (ap₂ (λ y z. (y, z)) h g) }))
+        (λ x y p q h g. judged_alike bare_stmt line 0 _ _
+        (conditional_alike x y (If line x.tree p.0 p.1) (If 0 y.tree q.0 q.1) h (ap₂ (λ z v. If 0 z v.0 v.1) (same_tree x y h) g)))
+    stmt_alike w scope (syntax_stmt.While line test s) =
+        after_both bare_typed bare_stmt bare_stmt _ _ _ _ _ _ (expr_alike scope.variables test) (stmt_alike (in_turn w) scope s)
+        (λ x y s1 t1 h g. judged_alike bare_stmt line 0 _ _
+        (conditional_alike x y (Loop line true (When x.tree) None s1) (Loop 0 true (When y.tree) None t1) h
+        (ap₂ (λ z v. Loop 0 true (When z) None v) (same_tree x y h) g)))
+    stmt_alike w scope (syntax_stmt.DoWhile line s test) =
+        after_both bare_stmt bare_typed bare_stmt _ _ _ _ _ _ (stmt_alike (in_turn w) scope s)
+        (subst (λ z. Alike bare_typed (expr (scope_behind scope s).variables test) (expr z.variables (unlined_expr test))) (sym (behind_bare scope s))
+        (expr_alike (scope_behind scope s).variables test))
+        (λ s1 t1 x y g h. judged_alike bare_stmt line 0 _ _
+        (conditional_alike x y (Loop line false (When x.tree) None s1) (Loop 0 false (When y.tree) None t1) h
+        (ap₂ (λ z v. Loop 0 false (When z) None v) (same_tree x y h) g)))
+    stmt_alike w scope (syntax_stmt.Break line) =
+        judged_alike bare_stmt line 0 _ _ (when_alike bare_stmt (w.in_loop || w.in_switch) _ (Break line) (Break 0) _ _ refl refl)
+    stmt_alike w scope (syntax_stmt.Continue line) =
+        judged_alike bare_stmt line 0 _ _ (when_alike bare_stmt w.in_loop _ (Continue line) (Continue 0) _ _ refl refl)
+    stmt_alike w scope (syntax_stmt.Return line value) = end_alike w scope line value
+    stmt_alike w scope (syntax_stmt.Perl line f) = judged_alike bare_stmt line 0 _ _ (perl_alike w scope.variables line f)
+    stmt_alike w scope (syntax_stmt.For line head s) =
+        let inner : Scope = first_behind scope head.first in
+        subst (λ z. Alike bare_stmt (stmt names w scope (syntax_stmt.For line head s))
+        (four (first_part (bare_scope scope) (unlined_first head.first)) (option_expr z.variables (option_map unlined_expr head.test))
+        (option_expr z.variables (option_map unlined_expr head.step)) (stmt names (in_turn w) z (unlined_stmt s))
+        (λ f x y t. judged 0 (for_loop 0 (declared_in (bare_scope scope) (scope_behind z (unlined_stmt s))) f x y t)))) (sym (first_bare scope head.first))
+        (after_both bare_stmt bare_rest bare_stmt _ _ _ _ _ _ (first_alike scope head.first)
+        (after_both bare_option bare_turns bare_rest _ _ _ _ _ _ (option_alike inner.variables head.test)
+        (after_both bare_option bare_stmt bare_turns _ _ _ _ _ _ (option_alike inner.variables head.step) (stmt_alike (in_turn w) inner s)
+        (λ a b c d h g. record { is = ap Some (ap₂ (λ y z. (y, z)) h g) }))
+        (λ a b c d h g. record { is = ap Some (ap₂ (λ y z. (y, z)) h g) }))
+        (λ a b p q h g. judged_alike bare_stmt line 0 _ _
+        (for_alike line (declared_in scope (scope_behind inner s)) (declared_in (bare_scope scope) (scope_behind (bare_scope inner) (unlined_stmt s))) a b p q
+        (slots_bare scope (scope_behind inner s)
+        ∙ ap (λ z. map bare_slot (map (λ v. v.slot) (drop (length (bare_scope scope).variables) z.variables))) (sym (behind_bare inner s))) h g)))
+    stmt_alike w scope (syntax_stmt.Switch line e all) =
+        after_both bare_typed (map bare_group) bare_stmt _ _ _ _ _ _ (expr_alike scope.variables e) (groups_alike (in_group w) scope all)
+        (λ x y gs hs h g. judged_alike bare_stmt line 0 _ _
+        (subst (λ t. AlikeIn bare_stmt (switched line x.of_type x.tree gs) (switched 0 t y.tree hs)) (same_type x y h)
+        (switched_alike line x.of_type x.tree y.tree gs hs (same_tree x y h) g)))
 
-    stmts_alike : (scope : Scope) (all : StmtTrees)
+    stmts_alike : (w : Where) (scope : Scope) (all : StmtTrees)
         → Alike (map bare_stmt) (stmts names w scope all) (stmts names w (bare_scope scope) (unlined_stmts all))
-    stmts_alike scope syntax_stmt.NoStmts = record { is = refl }
-    stmts_alike scope (syntax_stmt.MoreStmts s rest) =
-        more_alike bare_stmt _ _ _ _ (stmt_alike scope s)
+    stmts_alike w scope syntax_stmt.NoStmts = record { is = refl }
+    stmts_alike w scope (syntax_stmt.MoreStmts s rest) =
+        more_alike bare_stmt _ _ _ _ (stmt_alike w scope s)
         (subst (λ z. Alike (map bare_stmt) (stmts names w (scope_behind scope s) rest) (stmts names w z (unlined_stmts rest)))
-        (sym (behind_bare scope s)) (stmts_alike (scope_behind scope s) rest))
+        (sym (behind_bare scope s)) (stmts_alike w (scope_behind scope s) rest))
+
+    groups_alike : (w : Where) (scope : Scope) (all : GroupTrees)
+        → Alike (map bare_group) (groups names w scope all) (groups names w (bare_scope scope) (unlined_groups all))
+    groups_alike w scope syntax_stmt.NoGroups = record { is = refl }
+    groups_alike w scope (syntax_stmt.MoreGroups line ls body rest) =
+        more_alike bare_group _ _ _ _
+        (after_both (map (λ (n : Option Number). n)) (map bare_stmt) bare_group _ _ _ _ _ _ (labels_alike scope.variables ls) (stmts_alike w scope body)
+        (λ ns ms ss ts h g. record { is = ap Some (ap₂ typed_group (sym (map-id ns) ∙ h ∙ map-id ms) g) }))
+        (subst (λ z. Alike (map bare_group) (groups names w (scopes_behind scope body) rest) (groups names w z (unlined_groups rest)))
+        (sym (all_behind_bare scope body)) (groups_alike w (scopes_behind scope body) rest))
 
 -- ---- files
 
@@ -520,7 +723,7 @@ file_alike t =
     after_both (map (λ (u : Unit {0}). u)) (map bare_function) bare _ _ _ _ _ _ (defines_alike t.defines)
     (subst (λ ns. Alike (map bare_function) (functions (names_of t.items) 0 t.items) (functions (record { functions = ns }) 0 (map unlined_item t.items)))
     (names_alike t.items) (functions_alike (names_of t.items) 0 t.items))
-    (λ us vs fs gs e g. record { is = ap (λ xs. Some (record { functions = xs })) g })
+    (λ us vs fs gs e g. record { is = ap (λ xs. Some (record { records = []; functions = xs })) g })
 
 abbrev bare_answer : Result Code Fault → Option Code
 bare_answer (Ok c) = Some (bare c)

@@ -29,6 +29,11 @@ both_good P Q R (Good a) (Bad e) k h g next = record { good = tt }
 both_good P Q R (Bad f) (Good b) k h g next = record { good = tt }
 both_good P Q R (Bad f) (Bad e) k h g next = record { good = tt }
 
+-- nothing is asked of a part
+pub anything : {A : Type 0} (r : Checked A) → WhereGood (λ (a : A). Unit {0}) r
+anything (Good a) = record { good = tt }
+anything (Bad f) = record { good = tt }
+
 -- ---- rules that end in a test
 
 pub fine_by : {A : Type 0} (P : A → Type 0) (b : Bool) (j : Judged A) (code : ℕ) (word : List ℕ) → WhereFine P j → WhereFine P (cond b j (Wrong code word))

@@ -1,7 +1,7 @@
 -- What is said of a part of a file: it is good, or it has a first fault. The faults of all parts
 -- are collected, and a node is judged only where its parts are good. Of all faults the one is told
 -- that stands on the lowest line, has the least code and comes first in the text.
-use Rattle.std.specs.Prelude.{ℕ, Bool, true, false, ◌&&◌, ◌||◌, not, if◌then◌else◌, nat_eq, nat_lt, List, [], ◌∷◌, Result, Ok, Err}
+use Rattle.std.specs.Prelude.{ℕ, Bool, ◌&&◌, ◌||◌, not, if◌then◌else◌, nat_eq, nat_lt, List, [], ◌∷◌, Result, Ok, Err}
 use Rattle.xs_base.specs.declared.fault.Fault.{Fault}
 use Rattle.xs_base.specs.declared.fault_codes.TheConstants.{NOT_BUILT}
 use Rattle.xs_base.specs.declared.source.FileOf.TheVariants as file
@@ -38,6 +38,19 @@ both (Good a) (Good b) node = node a b
 both (Good a) (Bad g) node = Bad g
 both (Bad f) (Good b) node = Bad f
 both (Bad f) (Bad g) node = Bad (lesser f g)
+
+-- a node of three parts
+abbrev pub three : {A B C D : Type 0} → Checked A → Checked B → Checked C
+    → (A → B → C → Checked D) → Checked D
+three {A} {B} {C} r s t node =
+    both r (both {C = B × C} s t (λ b c. Good (b, c))) (λ a p. node a p.0 p.1)
+
+-- a node of four parts
+abbrev pub four : {A B C D E : Type 0} → Checked A → Checked B → Checked C → Checked D
+    → (A → B → C → D → Checked E) → Checked E
+four {A} {B} {C} {D} r s t u node =
+    both r (three {D = B × (C × D)} s t u (λ b c d. Good (b, (c, d))))
+    (λ a p. node a p.0 p.1.0 p.1.1)
 
 -- a list with one part more at its front
 abbrev pub more : {A : Type 0} → Checked A → Checked (List A) → Checked (List A)

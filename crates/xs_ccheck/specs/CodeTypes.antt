@@ -1,6 +1,7 @@
 -- The types of typed code, one rule for each form (the C standard, 6.5 and 6.8.4.1). The types of
 -- variables are those of the function's slots.
-use Rattle.std.specs.Prelude.{◌≡◌, ℕ, true, List, [], ◌∷◌, Some, slice_get}
+use Rattle.std.specs.Prelude.{◌≡◌, ℕ, Bool, true, List, [], ◌∷◌, Option, None, Some, slice_get}
+use Rattle.xs_values.specs.Kinds.{promoted}
 use Rattle.xs_values.specs.declared.kind.Kind.{Kind}
 use Rattle.xs_values.specs.declared.kind.Kind.TheVariants.{I32}
 use Rattle.xs_values.specs.declared.operator.Op.{Op}
@@ -8,10 +9,13 @@ use Rattle.xs_values.specs.Numbers.{Number, result_kind_of}
 use Rattle.xs_perlapi.specs.declared.row.ApiType.{ApiType}
 use Rattle.xs_perlapi.specs.declared.row.Row.TheVariants.{Entry, XsReturnYes}
 use Rattle.xs_perlapi.specs.Table.{RowCall, row_named}
+use Rattle.xs_ctree.specs.declared.node.Sort.{Sort}
+use Rattle.xs_ctree.specs.declared.node.Sort.TheVariants.{Helper, XsFunction, Boot}
 use Rattle.xs_ctree.specs.declared.value_type.Slot.{Slot}
 use Rattle.xs_ctree.specs.declared.value_type.ValueType.{ValueType}
 use Rattle.xs_ctree.specs.declared.value_type.ValueType.TheVariants as type_of
-use Rattle.xs_ctree.specs.TypedTree.{Expr, Exprs, NoExprs, MoreExprs, Literal, Variable, ItemCount, Cast, Binary, Assign, Api, Usage, Target, ToVariable, ToItem, Stmt, Stmts, NoStmts, MoreStmts, Block, Effect, Declare, If, Quit, Register}
+use Rattle.xs_ctree.specs.TypedTree.{Expr, Exprs, NoExprs, MoreExprs, Literal, Variable, ItemCount, Cast, Binary, Assign, Api, Usage, Target, ToVariable, ToItem, Test, Always, When, Stmt, Stmts, NoStmts, MoreStmts, Block, Effect, Declare, If, Loop, Switch, Break, Continue, Return, Give, Quit, Register, Groups, NoGroups, MoreGroups, SetIndex}
+use Rattle.xs_ccheck.specs.StmtTyping.{may_return}
 use Rattle.xs_ccheck.specs.ValueTypes.{casts, goes_into, is_condition, is_number, is_operand, result_type}
 
 mutual
@@ -46,23 +50,61 @@ mutual
     to_item : {e : Expr} {t : ValueType} → HasType slots e t → is_number t ≡ true
         → IsTarget slots (ToItem e) type_of.Scalar
 
-mutual
-  -- Each expression of a statement has a type, each condition that of a number or a pointer. What
-  -- dXSARGS and XSRETURN_YES do is a row that no text calls.
-  pub data IsTyped (slots : List Slot) : Stmt → Type 0 where
-    block : {own : List Slot} {ss : Stmts} → AreTyped slots ss → IsTyped slots (Block own ss)
-    effect : {e : Expr} {t : ValueType} → HasType slots e t → IsTyped slots (Effect e)
-    entry : {at : ℕ} → IsTyped slots (Effect (Api at Entry NoExprs))
-    declaration : {at x : ℕ} {s : Slot} → slice_get slots x ≡ Some s
-        → IsTyped slots (Declare at x)
-    choice : {at : ℕ} {test : Expr} {a b : Stmt} {t : ValueType} → HasType slots test t
-        → is_condition t ≡ true → IsTyped slots a → IsTyped slots b
-        → IsTyped slots (If at test a b)
-    quit : {at : ℕ} {e : Expr} {t : ValueType} → HasType slots e t → IsTyped slots (Quit at e)
-    return_yes : {at line : ℕ} → IsTyped slots (Quit at (Api line XsReturnYes NoExprs))
-    register : {name : List ℕ} {f : ℕ} → IsTyped slots (Register name f)
+-- the test of a loop is a condition
+pub data IsTest (slots : List Slot) : Test → Type 0 where
+  no_test : IsTest slots Always
+  test : {e : Expr} {t : ValueType} → HasType slots e t → is_condition t ≡ true
+      → IsTest slots (When e)
 
-  pub data AreTyped (slots : List Slot) : Stmts → Type 0 where
-    no_more : AreTyped slots NoStmts
-    one_more : {s : Stmt} {ss : Stmts} → IsTyped slots s → AreTyped slots ss
-        → AreTyped slots (MoreStmts s ss)
+-- the expression after each turn of a loop
+pub data IsEach (slots : List Slot) : Option Expr → Type 0 where
+  no_each : IsEach slots None
+  each : {e : Expr} {t : ValueType} → HasType slots e t → IsEach slots (Some e)
+
+mutual
+  -- Each expression of a statement has a type, each condition that of a number or a pointer, and
+  -- what the function gives that of its result. What dXSARGS and XSRETURN_YES do is a row that no
+  -- text calls.
+  pub data IsTyped (slots : List Slot) (result : ValueType) : Stmt → Type 0 where
+    block : {own : List Slot} {ss : Stmts} → AreTyped slots result ss
+        → IsTyped slots result (Block own ss)
+    effect : {e : Expr} {t : ValueType} → HasType slots e t → IsTyped slots result (Effect e)
+    entry : {at : ℕ} → IsTyped slots result (Effect (Api at Entry NoExprs))
+    declaration : {at x : ℕ} {s : Slot} → slice_get slots x ≡ Some s
+        → IsTyped slots result (Declare at x)
+    choice : {at : ℕ} {test : Expr} {a b : Stmt} {t : ValueType} → HasType slots test t
+        → is_condition t ≡ true → IsTyped slots result a → IsTyped slots result b
+        → IsTyped slots result (If at test a b)
+    loop : {at : ℕ} {first : Bool} {test : Test} {each : Option Expr} {s : Stmt}
+        → IsTest slots test → IsEach slots each → IsTyped slots result s
+        → IsTyped slots result (Loop at first test each s)
+    switch : {at : ℕ} {kind : Kind} {e : Expr} {gs : Groups}
+        → HasType slots e (type_of.Number kind) → AreGroups slots result gs
+        → IsTyped slots result (Switch at (promoted kind) e gs)
+    break_out : {at : ℕ} → IsTyped slots result (Break at)
+    next_turn : {at : ℕ} → IsTyped slots result (Continue at)
+    function_end : {at : ℕ} → may_return result None ≡ true → IsTyped slots result (Return at)
+    gives : {at : ℕ} {e : Expr} {t : ValueType} → HasType slots e t
+        → may_return result (Some t) ≡ true → IsTyped slots result (Give at e)
+    quit : {at : ℕ} {e : Expr} {t : ValueType} → HasType slots e t
+        → IsTyped slots result (Quit at e)
+    return_yes : {at line : ℕ} → IsTyped slots result (Quit at (Api line XsReturnYes NoExprs))
+    set_index : {n : Number} → IsTyped slots result (SetIndex n)
+    register : {name : List ℕ} {f : ℕ} {keeps : Bool} → IsTyped slots result (Register name f keeps)
+
+  pub data AreTyped (slots : List Slot) (result : ValueType) : Stmts → Type 0 where
+    no_more : AreTyped slots result NoStmts
+    one_more : {s : Stmt} {ss : Stmts} → IsTyped slots result s → AreTyped slots result ss
+        → AreTyped slots result (MoreStmts s ss)
+
+  pub data AreGroups (slots : List Slot) (result : ValueType) : Groups → Type 0 where
+    no_group : AreGroups slots result NoGroups
+    one_group : {labels : List (Option Number)} {ss : Stmts} {gs : Groups}
+        → AreTyped slots result ss → AreGroups slots result gs
+        → AreGroups slots result (MoreGroups labels ss gs)
+
+-- the type of what a function gives
+abbrev pub result_of : Sort → ValueType
+result_of (Helper count result) = result
+result_of XsFunction = type_of.Void
+result_of Boot = type_of.Void

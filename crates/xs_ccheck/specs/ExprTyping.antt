@@ -190,3 +190,8 @@ module _ (variables : List Local) where
     -- not built yet
     place_in (TargetPlace line name) = judged line unbuilt
     place_in (FieldPlace line name field) = judged line unbuilt
+
+-- an expression, where there is one
+abbrev pub option_expr : List Local → Option ExprTree → Checked (Option TypedExpr)
+option_expr variables None = Good None
+option_expr variables (Some e) = behind (expr variables e) (λ x. Good (Some x))

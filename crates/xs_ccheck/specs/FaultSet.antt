@@ -1,16 +1,17 @@
 -- The faults of a file as a finite set, node by node, and the least of them. A node has its own
 -- fault where its parts are sound and its rule refuses it. Nothing here collects faults or says in
 -- which order they are found.
-use Rattle.std.specs.Prelude.{◌≡◌, ◌<◌, ◌⊎◌, ℕ, ◌+◌, Bool, false, not, if◌then◌else◌, List, [], ◌∷◌, Option, Some, None, slice_get}
-use Rattle.std.specs.Option.{is_none}
+use Rattle.std.specs.Prelude.{◌≡◌, ◌<◌, ◌⊎◌, ℕ, ◌+◌, Bool, not, ◌||◌, if◌then◌else◌, List, [], ◌∷◌, Option, Some, None, codes, slice_get}
+use Rattle.std.specs.Option.{option_map}
 use Rattle.std.specs.Str.{bytes_eq}
 use Rattle.xs_base.specs.declared.fault.Fault.{Fault}
-use Rattle.xs_base.specs.declared.fault_codes.TheConstants.{TYPES_DIFFER, DECLARED_TWICE, NOT_BUILT}
+use Rattle.xs_base.specs.declared.fault_codes.TheConstants.{TYPES_DIFFER, DECLARED_TWICE, WORD_NOT_ALLOWED, NOT_BUILT}
 use Rattle.xs_cinput.specs.declared.tree.BinaryOp.TheVariants as c
 use Rattle.xs_cexpr.specs.ExpressionTree as syntax
 use Rattle.xs_cexpr.specs.ExpressionTree.{ExprTree, ExprTrees, PlaceTree, VarPlace, StPlace}
 use Rattle.xs_cstmt.specs.StatementTree as statement
-use Rattle.xs_cstmt.specs.StatementTree.{DeclaratorTree, StmtTree, StmtTrees}
+use Rattle.xs_cstmt.specs.StatementTree.{DeclaratorTree, FirstTree, StmtTree, StmtTrees, GroupTrees}
+use Rattle.xs_cstmt.specs.declared.tree.Label.{Label}
 use Rattle.xs_csyn.specs.declared.tree.Define.{Define}
 use Rattle.xs_csyn.specs.FileTree.{XsFunTree, ItemTree, TypedefItem, RecordItem, PrototypeItem, FunctionItem, XsFunItem, FileTree}
 use Rattle.xs_csyn.specs.Grammar.{line_of, line_of_place}
@@ -19,10 +20,10 @@ use Rattle.xs_ccheck.specs.Checked.{Judged, Fine, Wrong, fault}
 use Rattle.xs_ccheck.specs.ExprTyping.{usage_word}
 use Rattle.xs_ccheck.specs.FileTyping.{behind_entry, entry_of, is_earlier, names_of, where_in}
 use Rattle.xs_ccheck.specs.FormTypes.{expr_rule, expr_type, place_rule}
-use Rattle.xs_ccheck.specs.Scopes.{Local, Scope, beginning, scope_behind, with_variable}
-use Rattle.xs_ccheck.specs.StmtTyping.{FileNames, declared, index_of, perl}
-use Rattle.xs_ccheck.specs.TypeNames.{declared_type, type_named}
-use Rattle.xs_ccheck.specs.ValueTypes.{is_condition}
+use Rattle.xs_ccheck.specs.Scopes.{Local, Scope, beginning, first_behind, name_behind, scope_behind, scopes_behind}
+use Rattle.xs_ccheck.specs.StmtTyping.{FileNames, declared, in_group, in_turn, index_of, is_test, label_number, line_of_label, may_return, perl}
+use Rattle.xs_ccheck.specs.TypeNames.{type_named}
+use Rattle.xs_ccheck.specs.ValueTypes.{is_condition, is_number}
 
 -- ---- nodes
 
@@ -34,7 +35,14 @@ pub data Node : Type 0 where
   ADefine : Define → Node
   AnItem : FileNames → ℕ → ItemTree → Node
   AStmt : FileNames → Where → Scope → StmtTree → Node
+  TheStmts : FileNames → Where → Scope → StmtTrees → Node
   ADeclarator : Scope → List ℕ → DeclaratorTree → Node
+  AFirst : Scope → FirstTree → Node
+  TheGroups : FileNames → Where → Scope → GroupTrees → Node
+  AGroup : FileNames → Where → Scope → List Label → StmtTrees → Node
+  TheLabels : List Local → List Label → Node
+  ALabel : List Local → Label → Node
+  AnOption : List Local → Option ExprTree → Node
   AnExpr : List Local → ExprTree → Node
   APlace : List Local → PlaceTree → Node
 
@@ -43,6 +51,11 @@ pub data Node : Type 0 where
 abbrev pub exprs_at : List Local → ExprTrees → List Node
 exprs_at variables syntax.NoExprs = []
 exprs_at variables (syntax.MoreExprs a rest) = AnExpr variables a ∷ exprs_at variables rest
+
+-- a value, where there is one
+abbrev pub value_at : List Local → Option ExprTree → List Node
+value_at variables None = []
+value_at variables (Some value) = AnExpr variables value ∷ []
 
 -- statements, each behind those before it
 abbrev pub stmts_at : FileNames → Where → Scope → StmtTrees → List Node
@@ -54,8 +67,22 @@ stmts_at names w scope (statement.MoreStmts s rest) =
 abbrev pub declarators_at : Scope → List ℕ → List DeclaratorTree → List Node
 declarators_at scope base [] = []
 declarators_at scope base (d ∷ rest) =
-    ADeclarator scope base d
-    ∷ declarators_at (with_variable scope d.line d.name (declared_type base d.stars)) base rest
+    ADeclarator scope base d ∷ declarators_at (name_behind base scope d) base rest
+
+abbrev pub first_at : Scope → FirstTree → List Node
+first_at scope statement.NoFirst = []
+first_at scope (statement.FirstDeclare d) = declarators_at scope d.base d.names
+first_at scope (statement.FirstEffect e) = AnExpr scope.variables e ∷ []
+
+abbrev pub labels_at : List Local → List Label → List Node
+labels_at variables [] = []
+labels_at variables (l ∷ rest) = ALabel variables l ∷ labels_at variables rest
+
+-- groups, each behind those before it
+abbrev pub groups_at : FileNames → Where → Scope → GroupTrees → List Node
+groups_at names w scope statement.NoGroups = []
+groups_at names w scope (statement.MoreGroups line labels body rest) =
+    AGroup names w scope labels body ∷ groups_at names w (scopes_behind scope body) rest
 
 abbrev pub defines_at : List Define → List Node
 defines_at [] = []
@@ -80,19 +107,27 @@ abbrev pub parts_of_place : List Local → PlaceTree → List Node
 parts_of_place variables (StPlace line at) = AnExpr variables at ∷ []
 parts_of_place variables _ = []
 
--- whether one name alone is declared, without a value; no other declaration is built yet
-abbrev pub is_built : List DeclaratorTree → Bool
-is_built [] = false
-is_built (d ∷ []) = is_none d.value
-is_built (d ∷ e ∷ rest) = false
-
 abbrev pub parts_of_stmt : FileNames → Where → Scope → StmtTree → List Node
 parts_of_stmt names w scope (statement.Block line body) = stmts_at names w scope body
 parts_of_stmt names w scope (statement.Declare d) =
-    if is_built d.names then declarators_at scope d.base d.names else []
+    declarators_at scope d.base d.names
 parts_of_stmt names w scope (statement.Effect line e) = AnExpr scope.variables e ∷ []
 parts_of_stmt names w scope (statement.If line test s) =
     AnExpr scope.variables test ∷ AStmt names w scope s ∷ []
+parts_of_stmt names w scope (statement.IfElse line test s other) =
+    AnExpr scope.variables test ∷ AStmt names w scope s
+    ∷ AStmt names w (scope_behind scope s) other ∷ []
+parts_of_stmt names w scope (statement.While line test s) =
+    AnExpr scope.variables test ∷ AStmt names (in_turn w) scope s ∷ []
+parts_of_stmt names w scope (statement.DoWhile line s test) =
+    AStmt names (in_turn w) scope s ∷ AnExpr (scope_behind scope s).variables test ∷ []
+parts_of_stmt names w scope (statement.Return line value) = value_at scope.variables value
+parts_of_stmt names w scope (statement.For line head s) =
+    AFirst scope head.first ∷ AnOption (first_behind scope head.first).variables head.test
+    ∷ AnOption (first_behind scope head.first).variables head.step
+    ∷ AStmt names (in_turn w) (first_behind scope head.first) s ∷ []
+parts_of_stmt names w scope (statement.Switch line e all) =
+    AnExpr scope.variables e ∷ TheGroups names (in_group w) scope all ∷ []
 parts_of_stmt names w scope _ = []
 
 -- the statements of a function, behind its dXSARGS
@@ -111,7 +146,15 @@ parts (TheItems names items) = items_at names 0 items
 parts (ADefine d) = []
 parts (AnItem names at i) = parts_of_item names i
 parts (AStmt names w scope s) = parts_of_stmt names w scope s
-parts (ADeclarator scope base d) = []
+parts (TheStmts names w scope all) = stmts_at names w scope all
+parts (AFirst scope first) = first_at scope first
+parts (TheGroups names w scope all) = groups_at names w scope all
+parts (AGroup names w scope labels body) =
+    TheLabels scope.variables labels ∷ TheStmts names w scope body ∷ []
+parts (TheLabels variables all) = labels_at variables all
+parts (ALabel variables l) = []
+parts (AnOption variables e) = value_at variables e
+parts (ADeclarator scope base d) = value_at scope.variables d.value
 parts (AnExpr variables e) = parts_of_expr variables e
 parts (APlace variables p) = parts_of_place variables p
 
@@ -129,23 +172,36 @@ refused_unless line test code word = if test then None else Some (fault line cod
 abbrev pub not_built : ℕ → Option Fault
 not_built line = Some (fault line NOT_BUILT [])
 
+-- a statement whose condition has a type without truth
+abbrev pub no_condition : ℕ → Scope → ExprTree → Option Fault
+no_condition line scope test =
+    refused_unless line (is_condition (expr_type scope.variables test)) TYPES_DIFFER []
+
 abbrev pub own_of_stmt : FileNames → Where → Scope → StmtTree → Option Fault
 own_of_stmt names w scope (statement.Block line body) = None
 own_of_stmt names w scope (statement.Empty line) = None
-own_of_stmt names w scope (statement.Declare d) =
-    if is_built d.names then None else not_built d.line
+own_of_stmt names w scope (statement.Declare d) = None
 own_of_stmt names w scope (statement.Effect line e) = None
-own_of_stmt names w scope (statement.If line test s) =
-    refused_unless line (is_condition (expr_type scope.variables test)) TYPES_DIFFER []
-own_of_stmt names w scope (statement.Perl line form) = refused line (perl names w line form)
-own_of_stmt names w scope (statement.IfElse line test s other) = not_built line
-own_of_stmt names w scope (statement.While line test s) = not_built line
-own_of_stmt names w scope (statement.DoWhile line s test) = not_built line
-own_of_stmt names w scope (statement.For line head s) = not_built line
-own_of_stmt names w scope (statement.Switch line e all) = not_built line
-own_of_stmt names w scope (statement.Break line) = not_built line
-own_of_stmt names w scope (statement.Continue line) = not_built line
-own_of_stmt names w scope (statement.Return line value) = not_built line
+own_of_stmt names w scope (statement.If line test s) = no_condition line scope test
+own_of_stmt names w scope (statement.IfElse line test s other) = no_condition line scope test
+own_of_stmt names w scope (statement.While line test s) = no_condition line scope test
+own_of_stmt names w scope (statement.DoWhile line s test) =
+    no_condition line (scope_behind scope s) test
+own_of_stmt names w scope (statement.Break line) =
+    refused_unless line (w.in_loop || w.in_switch) WORD_NOT_ALLOWED (codes "break")
+own_of_stmt names w scope (statement.Continue line) =
+    refused_unless line w.in_loop WORD_NOT_ALLOWED (codes "continue")
+own_of_stmt names w scope (statement.Return line value) =
+    refused_unless line (may_return w.result (option_map (expr_type scope.variables) value))
+    TYPES_DIFFER []
+own_of_stmt names w scope (statement.Perl line form) =
+    refused line (perl names w scope.variables line form)
+own_of_stmt names w scope (statement.For line head s) =
+    refused_unless line
+    (is_test (option_map (expr_type (first_behind scope head.first).variables) head.test))
+    TYPES_DIFFER []
+own_of_stmt names w scope (statement.Switch line e all) =
+    refused_unless line (is_number (expr_type scope.variables e)) TYPES_DIFFER []
 
 -- no function before another has its name
 abbrev pub own_of_function : FileNames → ℕ → XsFunTree → Option Fault
@@ -167,8 +223,16 @@ own (TheItems names items) = None
 own (ADefine d) = not_built d.line
 own (AnItem names at i) = own_of_item names at i
 own (AStmt names w scope s) = own_of_stmt names w scope s
+own (TheStmts names w scope all) = None
+own (AFirst scope first) = None
+own (TheGroups names w scope all) = None
+own (AGroup names w scope labels body) = None
+own (TheLabels variables all) = None
+own (ALabel variables l) = refused (line_of_label l) (label_number variables l)
+own (AnOption variables e) = None
 own (ADeclarator scope base d) =
-    refused d.line (declared scope d.line d.name (type_named base d.stars))
+    refused d.line (declared scope d.name (type_named base d.stars)
+    (option_map (expr_type scope.variables) d.value))
 own (AnExpr variables e) = refused (line_of e) (expr_rule variables e)
 own (APlace variables p) = refused (line_of_place p) (place_rule variables p)
 

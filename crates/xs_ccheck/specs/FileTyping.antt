@@ -1,5 +1,5 @@
 -- The code that a file means: its functions in the order of the text.
-use Rattle.std.specs.Prelude.{ℕ, ◌+◌, Bool, false, if◌then◌else◌, nat_eq, nat_lt, List, [], ◌∷◌, ◌++◌, map, Option, Some, None, Result, codes}
+use Rattle.std.specs.Prelude.{ℕ, ◌+◌, Bool, false, if◌then◌else◌, nat_eq, nat_lt, List, [], ◌∷◌, map, Option, Some, None, Result, codes}
 use Rattle.std.specs.List.{starts_with}
 use Rattle.xs_base.specs.declared.fault.Fault.{Fault}
 use Rattle.xs_base.specs.declared.fault_codes.TheConstants.{DECLARED_TWICE}
@@ -14,6 +14,7 @@ use Rattle.xs_csyn.specs.FileTree.{XsFunTree, ItemTree, TypedefItem, RecordItem,
 use Rattle.xs_perlapi.specs.declared.row.Row.TheVariants.{Entry}
 use Rattle.xs_ctree.specs.declared.node.Sort.{Sort}
 use Rattle.xs_ctree.specs.declared.node.Sort.TheVariants.{XsFunction, Boot}
+use Rattle.xs_ctree.specs.declared.value_type.ValueType.TheVariants as type_of
 use Rattle.xs_ctree.specs.TypedTree.{Api, NoExprs, Stmt, Block, Effect, Function, Code, stmts_of}
 use Rattle.xs_ccheck.specs.declared.names.Where.{Where}
 use Rattle.xs_ccheck.specs.Checked.{Checked, Good, answer, behind, both, more, Judged, Fine, Wrong, judged, unbuilt}
@@ -63,8 +64,17 @@ is_boot_name name = starts_with nat_eq name boot_begin
 abbrev pub sort_of : Bool → Sort
 sort_of is_boot = if is_boot then Boot else XsFunction
 
+-- where the statements of an XS function stand
+abbrev pub outermost : Bool → Where
+outermost in_boot = record {
+  in_boot = in_boot;
+  result = type_of.Void;
+  in_loop = false;
+  in_switch = false;
+}
+
 abbrev pub where_in : List ℕ → Where
-where_in name = record { in_boot = is_boot_name name }
+where_in name = outermost (is_boot_name name)
 
 -- the function of these statements, where this scope stands behind them
 abbrev pub function_done : List ℕ → Bool → Scope → List Stmt → Function
@@ -130,7 +140,7 @@ defines (d ∷ rest) = more (judged d.line unbuilt) (defines rest)
 unfoldable pub code_meant : FileTree → Checked Code
 code_meant f =
     both (defines f.defines) (functions (names_of f.items) 0 f.items)
-    (λ ds fs. Good (record { functions = fs }))
+    (λ ds fs. Good (record { records = []; functions = fs }))
 
 unfoldable pub typed_of : FileTree → Result Code Fault
 typed_of f = answer (code_meant f)

@@ -3,7 +3,7 @@ use Rattle.std.specs.Prelude.{◌≡◌, ◌↔◌, ℕ, List, Some, Ok, Err, sl
 use Rattle.xs_base.specs.declared.fault.Fault.{Fault}
 use Rattle.xs_csyn.specs.FileTree.{FileTree, XsFunTree, XsFunItem, unlined}
 use Rattle.xs_ctree.specs.TypedTree.{Code, Function, bare}
-use Rattle.xs_ccheck.specs.CodeTypes.{IsTyped}
+use Rattle.xs_ccheck.specs.CodeTypes.{IsTyped, result_of}
 use Rattle.xs_ccheck.specs.FaultSet.{Node, AFile, IsFault, IsSound, IsLeast, HasNoFault, AreOrdered}
 use Rattle.xs_ccheck.specs.FileTyping.{typed_of}
 use Rattle.xs_ccheck.specs.SlotUses.{HasItsSlots}
@@ -41,4 +41,4 @@ SlotsOnceLaw = (t : FileTree) (c : Code) (i : ℕ) (f : Function) → typed_of t
 -- Each expression in the code of a function has the type that the rule of its form gives.
 abbrev pub TypesOfFormsLaw : Type 0
 TypesOfFormsLaw = (t : FileTree) (c : Code) (i : ℕ) (f : Function) → typed_of t ≡ Ok c
-    → slice_get c.functions i ≡ Some f → IsTyped f.slots f.body
+    → slice_get c.functions i ≡ Some f → IsTyped f.slots (result_of f.sort) f.body

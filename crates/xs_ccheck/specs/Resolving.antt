@@ -1,7 +1,9 @@
 -- What the checking of expressions, statements and functions gives: nodes whose trees are those of
 -- the definition, or the fault that it tells.
-use Rattle.std.specs.Prelude.{◌≡◌, ℕ, true, List, [], ◌∷◌, ◌++◌, length, map, Result, Ok, Err}
+use Rattle.std.specs.Prelude.{◌≡◌, ℕ, true, List, [], ◌∷◌, ◌++◌, length, map, Option, None, Some, Result, Ok, Err}
+use Rattle.std.specs.List.{list_all}
 use Rattle.std.specs.Map.{lookup}
+use Rattle.std.specs.Option.{option_map}
 use Rattle.std.specs.Str.{bytes_eq}
 use Rattle.std.specs.declared.alloc.Global.{Global}
 use Rattle.std.specs.declared.vec.Vec.{Vec}
@@ -9,19 +11,21 @@ use Rattle.xs_base.specs.declared.fault.Refuse.{Refuse}
 use Rattle.xs_base.specs.declared.fault.Refuse.TheVariants as refuse
 use Rattle.xs_csyn.specs.declared.tree.FileItem.{FileItem}
 use Rattle.xs_csyn.specs.FileViews.{item_tree}
-use Rattle.xs_ctree.specs.declared.node.TargetNode.{TargetNode}
+use Rattle.xs_values.specs.Numbers.{Number}
+use Rattle.xs_ctree.specs.declared.node.Group.{Group}
 use Rattle.xs_ctree.specs.declared.typed.Typed.{Typed}
 use Rattle.xs_ctree.specs.Arena.{all_below, target_fits, target_from}
-use Rattle.xs_ctree.specs.Functions.{expr_in, functions_in, stmt_in}
-use Rattle.xs_ctree.specs.Growth.{HasExpr, HasStmt, Keeps}
+use Rattle.xs_ctree.specs.Functions.{expr_in, functions_in, records_in, stmt_in}
+use Rattle.xs_ctree.specs.Growth.{HasExpr, HasStmt, Keeps, has_stmts}
 use Rattle.xs_ctree.specs.declared.value_type.Slot.{Slot}
+use Rattle.xs_ctree.specs.declared.value_type.ValueType.{ValueType}
 use Rattle.xs_ctree.specs.TypedTree.{Block, Function, Stmt, stmts_of}
 use Rattle.xs_ccheck.specs.declared.exprs.TypedNode.{TypedNode}
 use Rattle.xs_ccheck.specs.declared.exprs.PlaceNode.{PlaceNode}
-use Rattle.xs_ccheck.specs.Checked.{Checked, Good, Bad}
+use Rattle.xs_ccheck.specs.Checked.{Checked, Good, Bad, judged}
 use Rattle.xs_ccheck.specs.ExprTyping.{TypedExpr, TypedTarget}
 use Rattle.xs_ccheck.specs.FileTyping.{names_of}
-use Rattle.xs_ccheck.specs.StmtTyping.{FileNames, index_of}
+use Rattle.xs_ccheck.specs.StmtTyping.{FileNames, TypedGroup, for_loop, index_of, typed_group}
 
 -- A call refuses with the fault that the definition tells, or where memory runs out.
 abbrev pub Refuses : {A : Type 0} → Refuse → Checked A → Type 0
@@ -72,6 +76,11 @@ abbrev pub GivesExprs : Result (Vec TypedNode Global) Refuse → Typed → Typed
 GivesExprs result old new read =
     Resolves (λ t v. all_typed_in t v.items) (λ t v. HaveTyped t v.items) result old new read
 
+-- a type
+abbrev pub GivesType : Result ValueType Refuse → Checked ValueType → Type 0
+GivesType (Ok t) read = read ≡ Good t
+GivesType (Err e) read = Refuses e read
+
 -- what is assigned to
 abbrev pub target_in : Typed → PlaceNode → TypedTarget
 target_in t p = record { target = target_from p.target (expr_in t); of_type = p.of_type }
@@ -81,6 +90,38 @@ HasTarget t p = target_fits (length t.exprs.items) p.target ≡ true
 
 abbrev pub GivesTarget : Result PlaceNode Refuse → Typed → Typed → Checked TypedTarget → Type 0
 GivesTarget result old new read = Resolves target_in HasTarget result old new read
+
+-- an expression, where there is one
+abbrev pub option_in : Typed → Option TypedNode → Option TypedExpr
+option_in t o = option_map (typed_in t) o
+
+abbrev pub HasOption : Typed → Option TypedNode → Type 0
+HasOption t None = Unit {0}
+HasOption t (Some x) = HasTyped t x
+
+abbrev pub GivesOption : Result (Option TypedNode) Refuse → Typed → Typed
+    → Checked (Option TypedExpr) → Type 0
+GivesOption result old new read = Resolves option_in HasOption result old new read
+
+-- ---- labels, which are no nodes
+
+abbrev pub label_in : Typed → Option Number → Option Number
+label_in t n = n
+
+abbrev pub HasLabel : Typed → Option Number → Type 0
+HasLabel t n = Unit {0}
+
+abbrev pub GivesLabel : Result (Option Number) Refuse → Typed → Typed → Checked (Option Number)
+    → Type 0
+GivesLabel result old new read = Resolves label_in HasLabel result old new read
+
+abbrev pub HaveLabels : Typed → List (Option Number) → Type 0
+HaveLabels t ns = Unit {0}
+
+abbrev pub GivesLabels : Result (Vec (Option Number) Global) Refuse → Typed → Typed
+    → Checked (List (Option Number)) → Type 0
+GivesLabels result old new read =
+    Resolves (λ t v. map (label_in t) v.items) (λ t v. HaveLabels t v.items) result old new read
 
 -- ---- statements
 
@@ -96,6 +137,47 @@ HaveStmts t xs = all_below (length t.stmts.items) xs ≡ true
 abbrev pub GivesStmts : Result (Vec ℕ Global) Refuse → Typed → Typed → Checked (List Stmt) → Type 0
 GivesStmts result old new read =
     Resolves (λ t v. all_stmts_in t v.items) (λ t v. HaveStmts t v.items) result old new read
+
+-- the groups of a switch
+abbrev pub group_in : Typed → Group → TypedGroup
+group_in t g = typed_group (map (label_in t) g.labels.items) (all_stmts_in t g.body.items)
+
+abbrev pub HasGroup : Typed → Group → Type 0
+HasGroup t g = HaveStmts t g.body.items
+
+abbrev pub GivesGroup : Result Group Refuse → Typed → Typed → Checked TypedGroup → Type 0
+GivesGroup result old new read = Resolves group_in HasGroup result old new read
+
+-- a group of these labels and statements
+abbrev pub group_made : Result (Vec (Option Number) Global × Vec ℕ Global) Refuse
+    → Result Group Refuse
+group_made (Ok p) = Ok (record { labels = p.0; body = p.1 })
+group_made (Err e) = Err e
+
+abbrev pub HaveGroups : Typed → List Group → Type 0
+HaveGroups t gs = list_all (has_stmts t) gs ≡ true
+
+abbrev pub GivesGroups : Result (Vec Group Global) Refuse → Typed → Typed
+    → Checked (List TypedGroup) → Type 0
+GivesGroups result old new read =
+    Resolves (λ t v. map (group_in t) v.items) (λ t v. HaveGroups t v.items) result old new read
+
+-- the parts of a `for`: what stands first, its test, its step and its body
+abbrev pub ForParts : Type 0
+ForParts = ℕ × (Option TypedNode × (Option TypedNode × ℕ))
+
+abbrev pub HasForParts : Typed → ForParts → Type 0
+HasForParts t p =
+    HasStmt t p.0 × (HasOption t p.1.0 × (HasOption t p.1.1.0 × HasStmt t p.1.1.1))
+
+-- the end of a `for` at a line with these slots, where this is what its parts came to
+abbrev pub ForEnds : ℕ → Result ForParts Refuse → List Slot → Typed → Result ℕ Refuse → Typed
+    → Type 0
+ForEnds line (Ok p) slots old result new =
+    GivesStmt result old new
+    (judged line (for_loop line slots (stmt_in old p.0) (option_in old p.1.0)
+    (option_in old p.1.1.0) (stmt_in old p.1.1.1)))
+ForEnds line (Err e) slots old result new = result ≡ Err e
 
 -- the end of a block with these slots, where this is what its statements came to
 abbrev pub BlockEnds : Result (Vec ℕ Global) Refuse → List Slot → Typed → Result ℕ Refuse → Typed
@@ -122,14 +204,15 @@ pub record IsFunction (old new : Typed) (read : Checked Function) : Type 0 where
   pub here : Function
   pub means : read ≡ Good here
   pub functions : functions_in new ≡ functions_in old ++ here ∷ []
+  pub records : records_in new ≡ records_in old
 
 abbrev pub GivesFunction : Result (Unit {0}) Refuse → Typed → Typed → Checked Function → Type 0
 GivesFunction (Ok u) old new read = IsFunction old new read
 GivesFunction (Err e) old new read = Refuses e read
 
--- all functions stand there
+-- all functions stand there, and no record
 abbrev pub GivesFunctions : Result Typed Refuse → Checked (List Function) → Type 0
-GivesFunctions (Ok t) read = read ≡ Good (functions_in t)
+GivesFunctions (Ok t) read = (read ≡ Good (functions_in t)) × (records_in t ≡ [])
 GivesFunctions (Err e) read = Refuses e read
 
 -- the names of a file

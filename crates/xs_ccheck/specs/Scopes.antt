@@ -7,7 +7,7 @@ use Rattle.std.specs.Str.{bytes_eq}
 use Rattle.std.specs.declared.alloc.Global.{Global}
 use Rattle.std.specs.declared.vec.Vec.{Vec}
 use Rattle.xs_cstmt.specs.StatementTree as syntax
-use Rattle.xs_cstmt.specs.StatementTree.{DeclaratorTree, DeclaredTree, StmtTree, StmtTrees}
+use Rattle.xs_cstmt.specs.StatementTree.{DeclaratorTree, DeclaredTree, FirstTree, StmtTree, StmtTrees, GroupTrees}
 use Rattle.xs_perlapi.specs.Table.{is_interface_word}
 use Rattle.xs_ctree.specs.declared.value_type.Slot.{Slot}
 use Rattle.xs_ctree.specs.declared.value_type.ValueType.{ValueType}
@@ -67,25 +67,47 @@ outside scope inner = knowing (length scope.variables) inner
 abbrev pub declared_in : Scope → Scope → List Slot
 declared_in scope inner = map (λ v. v.slot) (drop (length scope.variables) inner.variables)
 
+-- the scope behind a name that is declared with a type word
+abbrev pub name_behind : List ℕ → Scope → DeclaratorTree → Scope
+name_behind base scope d = with_variable scope d.line d.name (declared_type base d.stars)
+
 abbrev pub declarators_behind : List ℕ → Scope → List DeclaratorTree → Scope
 declarators_behind base scope [] = scope
 declarators_behind base scope (d ∷ rest) =
-    declarators_behind base (with_variable scope d.line d.name (declared_type base d.stars)) rest
+    declarators_behind base (name_behind base scope d) rest
 
 abbrev pub declared_behind : Scope → DeclaredTree → Scope
 declared_behind scope d = declarators_behind d.base scope d.names
 
+-- the scope behind what stands first in the head of a `for`
+abbrev pub first_behind : Scope → FirstTree → Scope
+first_behind scope syntax.NoFirst = scope
+first_behind scope (syntax.FirstDeclare d) = declared_behind scope d
+first_behind scope (syntax.FirstEffect e) = scope
+
 unfoldable mutual
-  -- the scope behind a statement; of a form that is not built yet nothing is declared
+  -- the scope behind a statement; what the head of a `for` declares is known in the `for` alone
   pub scope_behind : Scope → StmtTree → Scope
   scope_behind scope (syntax.Block line body) = outside scope (scopes_behind scope body)
   scope_behind scope (syntax.Declare d) = declared_behind scope d
   scope_behind scope (syntax.If line test s) = scope_behind scope s
+  scope_behind scope (syntax.IfElse line test s other) =
+      scope_behind (scope_behind scope s) other
+  scope_behind scope (syntax.While line test s) = scope_behind scope s
+  scope_behind scope (syntax.DoWhile line s test) = scope_behind scope s
+  scope_behind scope (syntax.For line head s) =
+      outside scope (scope_behind (first_behind scope head.first) s)
+  scope_behind scope (syntax.Switch line e all) = groups_behind scope all
   scope_behind scope _ = scope
 
   pub scopes_behind : Scope → StmtTrees → Scope
   scopes_behind scope syntax.NoStmts = scope
   scopes_behind scope (syntax.MoreStmts s rest) = scopes_behind (scope_behind scope s) rest
+
+  pub groups_behind : Scope → GroupTrees → Scope
+  groups_behind scope syntax.NoGroups = scope
+  groups_behind scope (syntax.MoreGroups line labels body rest) =
+      groups_behind (scopes_behind scope body) rest
 
 -- where the first statement of a function stands
 abbrev pub beginning : Scope

@@ -1,5 +1,5 @@
 -- Which types go into which (the C standard, 6.3 and 6.5), and what the operands of rows are.
-use Rattle.std.specs.Prelude.{Bool, true, false, if◌then◌else◌, List, [], ◌∷◌, Option, None, Some}
+use Rattle.std.specs.Prelude.{Bool, true, false, [], Option, None, Some}
 use Rattle.xs_base.specs.declared.fault_codes.TheConstants.{TYPES_DIFFER}
 use Rattle.xs_values.specs.declared.operator.Op.{Op}
 use Rattle.xs_values.specs.Numbers.{result_kind_of}
@@ -14,43 +14,35 @@ differ = Wrong TYPES_DIFFER []
 
 abbrev pub is_number : ValueType → Bool
 is_number (type_of.Number kind) = true
-is_number type_of.Scalar = false
-is_number type_of.Void = false
-is_number type_of.Faulty = false
+is_number _ = false
 
 abbrev pub is_scalar : ValueType → Bool
-is_scalar (type_of.Number kind) = false
 is_scalar type_of.Scalar = true
-is_scalar type_of.Void = false
-is_scalar type_of.Faulty = false
+is_scalar _ = false
 
 -- whether the type is that of a declaration with a type that no variable may have
 abbrev pub is_faulty : ValueType → Bool
-is_faulty (type_of.Number kind) = false
-is_faulty type_of.Scalar = false
-is_faulty type_of.Void = false
 is_faulty type_of.Faulty = true
+is_faulty _ = false
 
--- what is assigned: numbers go into each other, and a pointer goes into its own type
+-- what is assigned: numbers go into each other, and a pointer goes into its own type; the other
+-- pointers are not built yet
 abbrev pub goes_into : ValueType → ValueType → Bool
 goes_into (type_of.Number from) to = is_number to
 goes_into type_of.Scalar to = is_scalar to
-goes_into type_of.Void to = false
 goes_into type_of.Faulty to = is_faulty to
+goes_into _ to = false
 
 -- a condition is a number or a pointer
 abbrev pub is_condition : ValueType → Bool
-is_condition (type_of.Number kind) = true
-is_condition type_of.Scalar = true
 is_condition type_of.Void = false
-is_condition type_of.Faulty = true
+is_condition _ = true
 
 -- what is cast to a type
 abbrev pub casts : ValueType → ValueType → Bool
 casts from (type_of.Number kind) = is_number from
 casts from type_of.Scalar = is_scalar from
-casts from type_of.Void = false
-casts from type_of.Faulty = false
+casts from _ = false
 
 abbrev pub of_cast : Option ValueType → ValueType → Judged ValueType
 of_cast None from = differ
@@ -69,6 +61,7 @@ of_two op _ _ = differ
 -- whether an expression of a type may be an operand of a row
 abbrev pub is_operand : ApiType → ValueType → Bool
 is_operand (api.Number kind) t = is_number t
+is_operand api.Integer t = is_number t
 is_operand api.Scalar t = is_scalar t
 is_operand _ t = false
 

@@ -78,7 +78,7 @@ fn other_name(alloc: Global, typed: &mut Typed, line: u32, name: &[u8]) -> Resul
     Err(Refuse::Fault(unknown(alloc, UNKNOWN_NAME, line, name)?))
 }
 
-fn name_meant(
+pub(crate) fn name_meant(
     alloc: Global,
     typed: &mut Typed,
     line: u32,
@@ -231,7 +231,7 @@ pub(crate) fn expr(
         Expr::Binary(line, op, a, b) => binary(alloc, typed, scope, *line, *op, a, b),
         Expr::Cast(line, to, a) => {
             let x = expr(alloc, typed, scope, a)?;
-            let of_type = type_named(to.name.as_slice(), to.stars);
+            let of_type = type_named(&to.name, to.stars);
             cast(alloc, typed, *line, of_type, x)
         }
         Expr::Char(line, _)

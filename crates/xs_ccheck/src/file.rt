@@ -4,7 +4,7 @@ ghost use Rattle.xs_base.specs.Reading.{GivesBy};
 ghost use Rattle.xs_cstmt.specs.StatementTree.{stmts_of};
 ghost use Rattle.xs_cstmt.specs.StatementViews.{stmt_tree};
 ghost use Rattle.xs_csyn.specs.FileViews.{file_tree, item_tree, xs_fun_tree};
-ghost use Rattle.xs_ctree.specs.Functions.{code_of, functions_in};
+ghost use Rattle.xs_ctree.specs.Functions.{code_of, functions_in, records_in};
 ghost use Rattle.xs_ctree.specs.Growth.{AddsStmt};
 ghost use Rattle.xs_ctree.specs.TypedTree as tree;
 ghost use Rattle.xs_ccheck.specs.FileTyping as spec;
@@ -13,7 +13,7 @@ ghost use Rattle.xs_ccheck.specs.Resolving.{GivesFunction, GivesFunctions, Gives
 use crate::checked::{both, first_of, noted, settled};
 use crate::faults::{not_built, worded};
 use crate::file_names::FileNames;
-use crate::names::{Where, is_boot_name, is_earlier};
+use crate::names::{is_boot_name, is_earlier, outermost};
 use crate::scopes::Scope;
 use crate::stmts::stmts;
 use std::alloc::Global;
@@ -151,8 +151,9 @@ fn add_function(
     body: &[u32],
 ) -> Result<(), Memory>
     requires { HaveStmts typed.old body.now }
-    ensures { IfOk result (λ _. functions_in typed.new ≡ functions_in typed.old
+    ensures functions { IfOk result (λ _. functions_in typed.new ≡ functions_in typed.old
         ++ spec.function_done name is_boot scope (all_stmts_in typed.old body.now) ∷ []) }
+    ensures records { IfOk result (λ _. records_in typed.new ≡ records_in typed.old) }
 {
     let slots = scope.slots_after(alloc, 0)?;
     let body = typed.add_block(slots.as_slice(), body)?;
@@ -181,14 +182,7 @@ fn function(
     let entry = entry_of(f.body.as_slice());
     let behind = behind_entry(entry, f.body.as_slice());
     let mut scope = Scope::new(alloc);
-    let body = stmts(
-        alloc,
-        typed,
-        &mut scope,
-        names,
-        Where { in_boot: is_boot },
-        behind,
-    )?;
+    let body = stmts(alloc, typed, &mut scope, names, outermost(is_boot), behind)?;
     if is_earlier(names.index_of(name), at) {
         return Err(Refuse::Fault(worded(alloc, f.line, DECLARED_TWICE, name)?));
     }

@@ -4,13 +4,17 @@
 
 mod calls;
 mod checked;
+mod declarations;
 mod exprs;
 mod faults;
 mod file;
 mod file_names;
+mod for_heads;
+mod labels;
 mod laws;
 mod names;
 mod scopes;
+mod stmt_nodes;
 mod stmts;
 mod value_types;
 

@@ -2,15 +2,57 @@
 ghost use Rattle.std.specs.Prelude.{◌≡◌, ◌&&◌, nat_eq};
 ghost use Rattle.std.specs.Str.{bytes_eq};
 ghost use Rattle.xs_ccheck.specs.FileTyping as files;
+ghost use Rattle.xs_ccheck.specs.StmtTyping as stmts;
 ghost use Rattle.xs_ccheck.specs.TypeNames as types;
 
+use xs_base::Bytes;
 use xs_ctree::ValueType;
-use xs_values::Kind;
+use xs_values::{DataModel, kind_of};
 
-/// Where a statement stands: whether its function is the boot function.
+/// Where a statement stands: whether its function is the boot function, the type of what the
+/// function gives, and whether a loop or a `switch` is around the statement.
 #[derive(Clone, Copy, Debug)]
 pub struct Where {
     pub in_boot: bool,
+    pub result: ValueType,
+    pub in_loop: bool,
+    pub in_switch: bool,
+}
+
+// Where the statements of an XS function stand.
+pub(crate) fn outermost(in_boot: bool) -> Where
+    ensures { result ≡ files.outermost in_boot }
+{
+    Where {
+        in_boot,
+        result: ValueType::Void,
+        in_loop: false,
+        in_switch: false,
+    }
+}
+
+// Where the body of a loop stands.
+pub(crate) fn in_turn(place: Where) -> Where
+    ensures { result ≡ stmts.in_turn place }
+{
+    Where {
+        in_boot: place.in_boot,
+        result: place.result,
+        in_loop: true,
+        in_switch: place.in_switch,
+    }
+}
+
+// Where the groups of a `switch` stand.
+pub(crate) fn in_group(place: Where) -> Where
+    ensures { result ≡ stmts.in_group place }
+{
+    Where {
+        in_boot: place.in_boot,
+        result: place.result,
+        in_loop: place.in_loop,
+        in_switch: true,
+    }
 }
 
 // ---- types
@@ -24,23 +66,23 @@ fn is_spelled(name: &[u8], stars: u32, other: &[u8], count: u32) -> bool
 
 // The type of a name with so many `*` after it, where it may be the type of a variable.
 #[tactic(auto, unfolding(crate::specs::TypeNames::type_named))]
-pub(crate) fn type_named(name: &[u8], stars: u32) -> Option<ValueType>
+pub(crate) fn type_named(name: &Bytes, stars: u32) -> Option<ValueType>
     ensures { result ≡ types.type_named name.now stars }
 {
-    if is_spelled(name, stars, b"int", 0) {
-        return Some(ValueType::Number(Kind::I32));
+    if stars == 0 {
+        return match kind_of(name, DataModel::Lp64) {
+            None => None,
+            Some(kind) => Some(ValueType::Number(kind)),
+        };
     }
-    if is_spelled(name, stars, b"IV", 0) {
-        return Some(ValueType::Number(Kind::I64));
-    }
-    if is_spelled(name, stars, b"SV", 1) {
+    if is_spelled(name.as_slice(), stars, b"SV", 1) {
         return Some(ValueType::Scalar);
     }
     None
 }
 
 // The type of what is declared with a name and so many `*`.
-pub(crate) fn declared_type(name: &[u8], stars: u32) -> ValueType
+pub(crate) fn declared_type(name: &Bytes, stars: u32) -> ValueType
     ensures { result ≡ types.declared_type name.now stars }
 {
     type_named(name, stars).unwrap_or(ValueType::Faulty)

@@ -7,7 +7,7 @@ use crate::names::declared_type;
 use indexmap::IndexMap;
 use std::alloc::Global;
 use std::marker::Model;
-use xs_base::Memory;
+use xs_base::{Bytes, Memory};
 use xs_csyn::Declarator;
 use xs_ctree::{Slot, ValueType};
 use xs_perlapi::is_interface_word;
@@ -163,7 +163,7 @@ impl Scope {
     }
 
     // Declares a variable, where its name is free.
-    fn declare(
+    fn add_free(
         &mut self,
         alloc: Global,
         line: u32,
@@ -190,20 +190,17 @@ impl Scope {
         )
     }
 
-    // Declares variables of a type word.
-    pub(crate) fn declare_all(
+    // Declares a name with a type word, where the name is free.
+    pub(crate) fn declare(
         &mut self,
         alloc: Global,
-        base: &[u8],
-        names: &[Declarator],
+        base: &Bytes,
+        d: &Declarator,
     ) -> Result<(), Memory>
         ensures { IfOk result (λ _. self.new
-            ≡ spec.declarators_behind base.now self.old (map declarator_tree names.now)) }
+            ≡ spec.name_behind base.now self.old (declarator_tree d.now)) }
     {
-        for d in names {
-            let of_type = declared_type(base, d.stars);
-            self.declare(alloc, d.line, d.name.as_slice(), of_type)?;
-        }
-        Ok(())
+        let of_type = declared_type(base, d.stars);
+        self.add_free(alloc, d.line, d.name.as_slice(), of_type)
     }
 }

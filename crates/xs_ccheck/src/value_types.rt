@@ -10,7 +10,7 @@ pub(crate) fn is_number(t: ValueType) -> bool
 {
     match t {
         ValueType::Number(_) => true,
-        ValueType::Scalar | ValueType::Void | ValueType::Faulty => false,
+        _ => false,
     }
 }
 
@@ -19,7 +19,7 @@ fn is_scalar(t: ValueType) -> bool
 {
     match t {
         ValueType::Scalar => true,
-        ValueType::Number(_) | ValueType::Void | ValueType::Faulty => false,
+        _ => false,
     }
 }
 
@@ -28,7 +28,7 @@ fn is_faulty(t: ValueType) -> bool
 {
     match t {
         ValueType::Faulty => true,
-        ValueType::Number(_) | ValueType::Scalar | ValueType::Void => false,
+        _ => false,
     }
 }
 
@@ -38,8 +38,8 @@ pub(crate) fn goes_into(from: ValueType, to: ValueType) -> bool
     match from {
         ValueType::Number(_) => is_number(to),
         ValueType::Scalar => is_scalar(to),
-        ValueType::Void => false,
         ValueType::Faulty => is_faulty(to),
+        _ => false,
     }
 }
 
@@ -47,8 +47,8 @@ pub(crate) fn is_condition(t: ValueType) -> bool
     ensures { result ≡ spec.is_condition t }
 {
     match t {
-        ValueType::Number(_) | ValueType::Scalar | ValueType::Faulty => true,
         ValueType::Void => false,
+        _ => true,
     }
 }
 
@@ -59,7 +59,7 @@ pub(crate) fn casts(from: ValueType, to: ValueType) -> bool
     match to {
         ValueType::Number(_) => is_number(from),
         ValueType::Scalar => is_scalar(from),
-        ValueType::Void | ValueType::Faulty => false,
+        _ => false,
     }
 }
 
@@ -68,7 +68,7 @@ pub(crate) fn is_operand(wanted: ApiType, t: ValueType) -> bool
     ensures { result ≡ spec.is_operand wanted t }
 {
     match wanted {
-        ApiType::Number(_) => is_number(t),
+        ApiType::Number(_) | ApiType::Integer => is_number(t),
         ApiType::Scalar => is_scalar(t),
         _ => false,
     }

@@ -6,17 +6,18 @@ use Rattle.std.specs.Prelude.{nat_lt}
 use Rattle.xs_base.specs.Readers.{head_is}
 use Rattle.xs_base.specs.Scanning.{is_ascii_digit}
 use Rattle.xs_base.specs.declared.fault_codes.TheConstants.{FLOATING_POINT_IN_C, LITERAL_TOO_WIDE, OPEN_COMMENT_OR_TEXT, STRAY_BYTE}
+use Rattle.xs_base.proofs.FrontRuns.{front_seam, head_belongs}
 use Rattle.xs_values.specs.declared.literal.Base.{Base}
 use Rattle.xs_ctok.specs.Fronts.{front_of}
 use Rattle.xs_ctok.specs.Laws.{CodesLaw}
-use Rattle.xs_ctok.specs.Numerals.{based_front, is_digit_of, is_floating, number_front, value_of}
+use Rattle.xs_ctok.specs.Numerals.{based_front, digits_in, is_digit_of, is_floating, number_front, value_of}
 use Rattle.xs_ctok.specs.QuotedTexts.{text_front}
 use Rattle.xs_ctok.specs.TokenSpelling.{IsPrefix, StandFor}
 use Rattle.xs_ctok.specs.declared.front.Front.TheVariants as front
 use Rattle.xs_ctok.specs.declared.numerals.NumberFront.TheVariants as number
 use Rattle.xs_ctok.proofs.EscapesSpelled.{text_passes}
 use Rattle.xs_ctok.proofs.FrontsSpelled.{front_digit, front_quote}
-use Rattle.xs_ctok.proofs.IntegersSpelled.{digits_seam, head_digit, prefix_begins, prefix_done}
+use Rattle.xs_ctok.proofs.IntegersSpelled.{prefix_begins, prefix_done}
 
 number_refused : (fresh : Bool) (text : List ℕ) (code : ℕ) → head_is is_ascii_digit text ≡ true → number_front text ≡ number.Refused code
     → front_of fresh text ≡ front.Refused code
@@ -30,9 +31,9 @@ wide : (fresh : Bool) (b : Base) (before digits rest : List ℕ) → IsPrefix b 
     → head_is (is_digit_of b) rest ≡ false → is_floating b (digits ++ rest) ≡ false → 2 ^ 64 ≤ value_of b digits
     → front_of fresh (before ++ (digits ++ rest)) ≡ front.Refused LITERAL_TOO_WIDE
 wide fresh b before digits rest prefix all some stop point large =
-    let digit = head_digit b digits rest all some in
+    let digit = head_belongs (digits_in b) digits rest all some in
     let told : based_front b (digits ++ rest) (length before) ≡ number.Refused LITERAL_TOO_WIDE =
-    rw (point, digits_seam b digits rest all stop, not_less (value_of b digits) (2 ^ 64) large) refl in
+    rw (point, front_seam (digits_in b) digits rest all stop, not_less (value_of b digits) (2 ^ 64) large) refl in
     number_refused fresh (before ++ (digits ++ rest)) LITERAL_TOO_WIDE (prefix_begins prefix digit) (prefix_done prefix digit ∙ told)
 
 floating : (fresh : Bool) (b : Base) (before text : List ℕ) → IsPrefix b before text → head_is (is_digit_of b) text ≡ true → is_floating b text ≡ true

@@ -8,82 +8,22 @@ use Rattle.std.specs.Prelude.{if◌then◌else◌, is_some, nat_lt}
 use Rattle.xs_base.specs.Readers.{head_is}
 use Rattle.xs_base.specs.Scanning.{is_ascii_digit, strip_prefix}
 use Rattle.xs_base.specs.declared.fault_codes.TheConstants.{FLOATING_POINT_IN_C, LITERAL_TOO_WIDE}
-use Rattle.xs_base.proofs.FrontRuns.{word_in_front}
+use Rattle.xs_base.proofs.FrontRuns.{after_seam, after_stops, front_after, front_belongs, front_seam, front_some, head_belongs, word_in_front}
 use Rattle.xs_values.specs.declared.literal.Base.{Base}
 use Rattle.xs_values.specs.declared.literal.Base.TheVariants as base
-use Rattle.xs_ctok.specs.Numerals.{Suffixed, after_digits, after_hexadecimal_prefix, based_front, digits_of, integer_front, is_digit_of, is_floating, is_x, literal, number_by, number_front, suffix_among, suffix_of, suffixed, suffixes, value_of}
+use Rattle.xs_ctok.specs.Numerals.{Suffixed, after_digits, after_hexadecimal_prefix, based_front, digits_in, digits_of, integer_front, is_digit_of, is_floating, is_octal, is_x, literal, number_by, number_front, suffix_among, suffix_of, suffixed, suffixes, value_of}
 use Rattle.xs_ctok.specs.TokenSpelling as sp
 use Rattle.xs_ctok.specs.TokenSpelling.{IsInteger, IsPrefix}
 use Rattle.xs_ctok.specs.declared.numerals.NumberFront.TheVariants as number
 use Rattle.xs_ctok.specs.declared.token.Literal.{Literal}
 use Rattle.xs_ctok.proofs.Facts.{is_less, less_is}
 
--- ---- runs of digits
-
-digits_after : (b : Base) (xs : List ℕ) → digits_of b xs ++ after_digits b xs ≡ xs
-digits_after b [] = refl
-digits_after b (c ∷ cs) = elim (is_digit_of b c) as (λ t. (if t then c ∷ digits_of b cs else []) ++ (if t then after_digits b cs else c ∷ cs) ≡ c ∷ cs) [
-  | true ↦ ap (λ (ys : List ℕ). c ∷ ys) (digits_after b cs)
-  | false ↦ refl
-]
-
-digits_belong : (b : Base) (xs : List ℕ) → list_all (is_digit_of b) (digits_of b xs) ≡ true
-digits_belong b [] = refl
-digits_belong b (c ∷ cs) = by (is_digit_of b c) refl (digits_belong b cs)
-  where
-    by : (t : Bool) → is_digit_of b c ≡ t → list_all (is_digit_of b) (digits_of b cs) ≡ true
-        → list_all (is_digit_of b) (if t then c ∷ digits_of b cs else []) ≡ true
-    by true e ih = and_from (is_digit_of b c) (list_all (is_digit_of b) (digits_of b cs)) e ih
-    by false e ih = refl
-
-digits_stop : (b : Base) (xs : List ℕ) → head_is (is_digit_of b) (after_digits b xs) ≡ false
-digits_stop b [] = refl
-digits_stop b (c ∷ cs) = by (is_digit_of b c) refl (digits_stop b cs)
-  where
-    by : (t : Bool) → is_digit_of b c ≡ t → head_is (is_digit_of b) (after_digits b cs) ≡ false
-        → head_is (is_digit_of b) (if t then after_digits b cs else c ∷ cs) ≡ false
-    by true e ih = ih
-    by false e ih = e
-
-pub digits_seam : (b : Base) (run rest : List ℕ) → list_all (is_digit_of b) run ≡ true → head_is (is_digit_of b) rest ≡ false → digits_of b (run ++ rest) ≡ run
-digits_seam b [] [] all stop = refl
-digits_seam b [] (c ∷ cs) all stop = rw stop refl
-digits_seam b (c ∷ cs) rest all stop =
-    let h = and_parts (is_digit_of b c) (list_all (is_digit_of b) cs) all in
-    rw h.0 (ap (λ (ys : List ℕ). c ∷ ys) (digits_seam b cs rest h.1 stop))
-
-pub after_seam : (b : Base) (run rest : List ℕ) → list_all (is_digit_of b) run ≡ true → head_is (is_digit_of b) rest ≡ false
-    → after_digits b (run ++ rest) ≡ rest
-after_seam b [] [] all stop = refl
-after_seam b [] (c ∷ cs) all stop = rw stop refl
-after_seam b (c ∷ cs) rest all stop =
-    let h = and_parts (is_digit_of b c) (list_all (is_digit_of b) cs) all in
-    rw h.0 (after_seam b cs rest h.1 stop)
-
-pub head_digit : (b : Base) (digits rest : List ℕ) → list_all (is_digit_of b) digits ≡ true → 0 < length digits
-    → head_is (is_digit_of b) (digits ++ rest) ≡ true
-head_digit b [] rest all some = absurd (omega arith)
-head_digit b (d ∷ digits) rest all some = (and_parts (is_digit_of b d) (list_all (is_digit_of b) digits) all).0
-
-digit_in : (b : Base) (text : List ℕ) → head_is (is_digit_of b) text ≡ true → 0 < length (digits_of b text)
-digit_in b [] h = absurd cc
-digit_in b (c ∷ cs) h = by (is_digit_of b c) h
-  where
-    by : (t : Bool) → t ≡ true → 0 < length (if t then c ∷ digits_of b cs else [])
-    by true e = omega arith
-    by false e = absurd cc
-
 -- ---- what is spelled is read
-
-no_prefix : (text : List ℕ) → head_is (λ c. c == 48) text ≡ false → after_hexadecimal_prefix text ≡ None
-no_prefix [] h = refl
-no_prefix (z ∷ []) h = refl
-no_prefix (z ∷ x ∷ rest) h = rw h refl
 
 pub prefix_done : {b : Base} {before text : List ℕ} → IsPrefix b before text → head_is (is_digit_of b) text ≡ true
     → number_front (before ++ text) ≡ based_front b text (length before)
 unfolding number_front
-prefix_done (sp.decimal {text = text} h) some = rw (no_prefix text h, h) refl
+prefix_done (sp.decimal h e) some = rw (e, h) refl
 prefix_done (sp.octal h e) some = rw (e, h) refl
 prefix_done (sp.hexadecimal h) some = rw (h, some) refl
 
@@ -94,8 +34,8 @@ based_done : (l : Literal) (before : ℕ) (digits written rest : List ℕ) → l
 based_done l before digits written rest all stop none suffix value fits =
     rw (
       none,
-      digits_seam l.base digits (written ++ rest) all stop,
-      after_seam l.base digits (written ++ rest) all stop,
+      front_seam (digits_in l.base) digits (written ++ rest) all stop,
+      after_seam (digits_in l.base) digits (written ++ rest) all stop,
       suffix,
       value,
       less_is l.value (2 ^ 64) fits,
@@ -109,7 +49,7 @@ integer_done l t rest x =
     ∙ ap (λ (k : List ℕ). x.before ++ k) (append_assoc x.digits x.written rest) in
     let size : length x.before + length x.digits + length x.written ≡ length t =
     omega (arith, ap length x.spelled, length-append x.before (x.digits ++ x.written), length-append x.digits x.written) in
-    ap number_front whole ∙ prefix_done x.prefix (head_digit l.base x.digits (x.written ++ rest) x.are_digits x.some)
+    ap number_front whole ∙ prefix_done x.prefix (head_belongs (digits_in l.base) x.digits (x.written ++ rest) x.are_digits x.some)
     ∙ based_done l (length x.before) x.digits x.written rest x.are_digits x.ends x.no_point x.suffix x.value x.fits
     ∙ ap (λ k. number.Integer l k) size
 
@@ -149,8 +89,8 @@ based_sound b before text l len prefix some h = by_point (is_floating b text) re
         let front = suffix_front (after_digits b text) in
         let rest = front.0 in
         let w = same_integer (literal b s.says (value_of b digits)) l (length before + length digits + length s.written) len h in
-        let tails : text ≡ digits ++ (s.written ++ rest) = sym (digits_after b text) ∙ ap (λ (k : List ℕ). digits ++ k) front.1 in
-        let stop : head_is (is_digit_of b) (s.written ++ rest) ≡ false = ap (head_is (is_digit_of b)) (sym front.1) ∙ digits_stop b text in
+        let tails : text ≡ digits ++ (s.written ++ rest) = sym (front_after (digits_in b) text) ∙ ap (λ (k : List ℕ). digits ++ k) front.1 in
+        let stop : head_is (is_digit_of b) (s.written ++ rest) ≡ false = ap (head_is (is_digit_of b)) (sym front.1) ∙ after_stops (digits_in b) text in
         let again : suffix_of (s.written ++ rest) ≡ suffixed s.written s.says = ap suffix_of (sym front.1) in (
           before ++ (digits ++ s.written),
           rest,
@@ -162,8 +102,8 @@ based_sound b before text l len prefix some h = by_point (is_floating b text) re
             written = s.written;
             spelled = refl;
             prefix = subst (λ k. IsPrefix b before k) tails prefix;
-            are_digits = digits_belong b text;
-            some = digit_in b text some;
+            are_digits = front_belongs (digits_in b) text;
+            some = front_some (digits_in b) text some;
             ends = stop;
             no_point = ap (is_floating b) (sym tails) ∙ point;
             suffix = again;
@@ -200,32 +140,33 @@ prefix_sound (z ∷ x ∷ more) rest h = by (z == 48 && (is_x x && head_is (is_d
         )
     by false e h = absurd cc
 
-decimal_head : (text : List ℕ) → head_is is_ascii_digit text ≡ true → head_is (is_digit_of base.Decimal) text ≡ true
+pub decimal_head : (text : List ℕ) → head_is is_ascii_digit text ≡ true → head_is (is_digit_of base.Decimal) text ≡ true
 decimal_head [] h = absurd cc
 decimal_head (c ∷ cs) h = digit_is c h
   where
     digit_is : (d : ℕ) → is_ascii_digit d ≡ true → is_digit_of base.Decimal d ≡ true
     digit_is d h = grind (arith, nat_tests)
 
-octal_head : (text : List ℕ) → head_is (λ c. c == 48) text ≡ true → head_is (is_digit_of base.Octal) text ≡ true
+pub octal_head : (text : List ℕ) → is_octal text ≡ true → head_is (is_digit_of base.Octal) text ≡ true
 octal_head [] h = absurd cc
-octal_head (c ∷ cs) h = subst (λ k. is_digit_of base.Octal k ≡ true) (sym (eqb-true c 48 h)) refl
+octal_head (c ∷ cs) h =
+    subst (λ k. is_digit_of base.Octal k ≡ true) (sym (eqb-true c 48 (and_parts (c == 48) (head_is is_ascii_digit cs) h).0)) refl
 
 pub integer_sound : (text : List ℕ) (l : Literal) (len : ℕ) → head_is is_ascii_digit text ≡ true → number_front text ≡ number.Integer l len
     → IntegerEnds text l len
 unfolding number_front
 integer_sound text l len digit h = by_prefix (after_hexadecimal_prefix text) refl h
   where
-    by_zero : after_hexadecimal_prefix text ≡ None → (t : Bool) → head_is (λ c. c == 48) text ≡ t
+    by_octal : after_hexadecimal_prefix text ≡ None → (t : Bool) → is_octal text ≡ t
         → (if t then based_front base.Octal text 0 else based_front base.Decimal text 0) ≡ number.Integer l len → IntegerEnds text l len
-    by_zero none true e h = based_sound base.Octal [] text l len (sp.octal e none) (octal_head text e) h
-    by_zero none false e h = based_sound base.Decimal [] text l len (sp.decimal e) (decimal_head text digit) h
+    by_octal none true e h = based_sound base.Octal [] text l len (sp.octal e none) (octal_head text e) h
+    by_octal none false e h = based_sound base.Decimal [] text l len (sp.decimal e none) (decimal_head text digit) h
 
     by_prefix : (o : Option (List ℕ)) → after_hexadecimal_prefix text ≡ o → number_by o text ≡ number.Integer l len → IntegerEnds text l len
     by_prefix (Some rest) e h =
         let p = prefix_sound text rest e in
         subst (λ k. IntegerEnds k l len) (sym p.1) (based_sound base.Hexadecimal (48 ∷ p.0 ∷ []) rest l len (sp.hexadecimal p.2) p.3 h)
-    by_prefix None e h = by_zero e (head_is (λ c. c == 48) text) refl h
+    by_prefix None e h = by_octal e (is_octal text) refl h
 
 -- ---- how an integer begins
 
@@ -237,8 +178,8 @@ octal_digit d h = grind (arith, nat_tests)
 
 pub prefix_begins : {b : Base} {before text : List ℕ} → IsPrefix b before text → head_is (is_digit_of b) text ≡ true
     → head_is is_ascii_digit (before ++ text) ≡ true
-prefix_begins (sp.decimal {text = []} h) some = absurd cc
-prefix_begins (sp.decimal {text = c ∷ cs} h) some = decimal_digit c some
+prefix_begins (sp.decimal {text = []} h e) some = absurd cc
+prefix_begins (sp.decimal {text = c ∷ cs} h e) some = decimal_digit c some
 prefix_begins (sp.octal {text = []} h e) some = absurd cc
 prefix_begins (sp.octal {text = c ∷ cs} h e) some = octal_digit c some
 prefix_begins (sp.hexadecimal h) some = refl
@@ -249,7 +190,7 @@ integer_begins l t rest x =
     let whole : t ++ rest ≡ x.before ++ text =
     ap (λ (k : List ℕ). k ++ rest) x.spelled ∙ append_assoc x.before (x.digits ++ x.written) rest
     ∙ ap (λ (k : List ℕ). x.before ++ k) (append_assoc x.digits x.written rest) in
-    ap (head_is is_ascii_digit) whole ∙ prefix_begins x.prefix (head_digit l.base x.digits (x.written ++ rest) x.are_digits x.some)
+    ap (head_is is_ascii_digit) whole ∙ prefix_begins x.prefix (head_belongs (digits_in l.base) x.digits (x.written ++ rest) x.are_digits x.some)
 
 pub integer_some : (l : Literal) (t rest : List ℕ) → IsInteger l t rest → 0 < length t
 integer_some l t rest x =

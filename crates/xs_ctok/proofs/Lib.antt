@@ -1,4 +1,3 @@
-pub mod DigitRuns
 pub mod DigitValues
 pub mod RunSizes
 pub mod ShortLines
@@ -17,3 +16,4 @@ pub mod LinesSpelled
 pub mod LongestSuffixes
 pub mod FewTokens
 pub mod CodesTold
+pub mod DigitsAlone

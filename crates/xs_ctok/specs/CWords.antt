@@ -1,6 +1,6 @@
 -- The words of the grammar of C, and which words are reserved, by the tables of the program.
 use Rattle.std.specs.Prelude.{ℕ, Bool, ◌||◌, List, map}
-use Rattle.xs_ctok.specs.declared.words.TheConstants.{DROPPED_STATEMENTS, DROPPED_WORDS, GRAMMAR_WORDS, OTHER_RESERVED, TYPE_WORDS}
+use Rattle.xs_ctok.specs.declared.words.TheConstants.{DROPPED_STATEMENTS, DROPPED_WORDS, GRAMMAR_WORDS, TYPE_WORDS}
 use Rattle.xs_base.specs.Names.{is_among}
 use Rattle.xs_perlapi.specs.Table.{is_interface_word}
 
@@ -32,11 +32,8 @@ is_dropped_word word = is_among dropped_words word
 unfoldable pub is_dropped_statement : List ℕ → Bool
 is_dropped_statement word = is_among dropped_statements word
 
--- reserved words that are names to the grammar, and that the API does not list
-abbrev pub other_reserved : List (List ℕ)
-other_reserved = map (λ word. word.now) OTHER_RESERVED
-
 -- a reserved word
 abbrev pub is_reserved : List ℕ → Bool
-is_reserved word = is_no_name word || (is_dropped_word word || (is_dropped_statement word
-    || (is_interface_word word || is_among other_reserved word)))
+is_reserved word =
+    is_no_name word
+    || (is_dropped_word word || (is_dropped_statement word || is_interface_word word))

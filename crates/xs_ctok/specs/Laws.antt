@@ -1,6 +1,6 @@
 -- The statements of the laws of this crate.
 use Rattle.std.specs.List.{list_all}
-use Rattle.std.specs.Prelude.{◌≡◌, ℕ, ◌^◌, ◌<◌, ◌≤◌, Bool, true, false, length, List, [], ◌∷◌, ◌++◌, map, Option, None, Result, Ok, Err}
+use Rattle.std.specs.Prelude.{◌≡◌, ℕ, ◌+◌, ◌^◌, ◌<◌, ◌≤◌, Bool, true, false, length, List, [], ◌∷◌, ◌++◌, map, Option, None, Result, Ok, Err}
 use Rattle.xs_base.specs.declared.fault_codes.TheConstants.{FLOATING_POINT_IN_C, LITERAL_TOO_WIDE, OPEN_COMMENT_OR_TEXT, STRAY_BYTE}
 use Rattle.xs_base.specs.declared.fault.Fault.{Fault}
 use Rattle.xs_base.specs.declared.source.FileOf.{FileOf}
@@ -11,12 +11,17 @@ use Rattle.xs_base.specs.Reading.{with_front}
 use Rattle.xs_base.specs.Scanning.{starts_with}
 use Rattle.xs_ctok.specs.LineSpelling.{ArePlaced, IsFault, IsRead}
 use Rattle.xs_values.specs.declared.literal.Base.{Base}
+use Rattle.xs_values.specs.declared.literal.Base.TheVariants as base
+use Rattle.xs_values.specs.declared.literal.Suffix.{Suffix}
+use Rattle.xs_values.specs.declared.model.DataModel.{DataModel}
+use Rattle.xs_values.specs.Literals.{literal_kind_of}
 use Rattle.xs_ctok.specs.Fronts.{front_of}
-use Rattle.xs_ctok.specs.Numerals.{Suffixed, is_digit_of, is_floating, suffix_of, suffixes, value_of}
+use Rattle.xs_ctok.specs.Numerals.{Suffixed, is_digit_of, is_floating, literal, suffix_of, suffixes, value_of}
 use Rattle.xs_ctok.specs.QuotedTexts.{escape_of}
-use Rattle.xs_ctok.specs.TokenSpelling.{IsPrefix, StandFor}
+use Rattle.xs_ctok.specs.TokenSpelling.{IsInteger, IsPrefix, StandFor}
 use Rattle.xs_ctok.specs.Tokens.{Cut, cut_of, tokens_of}
 use Rattle.xs_ctok.specs.declared.front.Front.TheVariants as front
+use Rattle.xs_ctok.specs.declared.numerals.TheConstants.{NO_SUFFIX}
 use Rattle.xs_ctok.specs.declared.quoted.Escape.TheVariants as escape
 use Rattle.xs_ctok.specs.declared.token.TokKind.{TokKind}
 use Rattle.xs_ctok.specs.declared.token.Token.{Token}
@@ -87,6 +92,14 @@ pub record SuffixLaw : Type 0 where
   pub longest : (text written : List ℕ)
       → is_among (map (λ (s : Suffixed). s.written) suffixes) written ≡ true
       → starts_with written text ≡ true → length written ≤ length (suffix_of text).written
+
+-- A decimal integer below 10 without a suffix is its digit alone. `0` counts as decimal, and has
+-- the kind that it has as an octal integer.
+pub record DigitLaw : Type 0 where
+  pub alone : (value : ℕ) (t rest : List ℕ) → value < 10
+      → IsInteger (literal base.Decimal NO_SUFFIX value) t rest → t ≡ (48 + value) ∷ []
+  pub zero_kind : (model : DataModel) (suffix : Suffix)
+      → literal_kind_of model base.Decimal suffix 0 ≡ literal_kind_of model base.Octal suffix 0
 
 -- The codes of faults: an integer of more than 64 bits, whatever follows it; a constant with a
 -- point or an exponent; a text in quotes in which the line ends, or that has an escape that is not

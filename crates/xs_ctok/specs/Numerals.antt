@@ -3,6 +3,9 @@ use Rattle.std.specs.Char.{digit_value}
 use Rattle.std.specs.Prelude.{ℕ, ◌+◌, ◌*◌, ◌^◌, ◌<◌, ◌≤◌, fold, Bool, false, ◌==◌, ◌&&◌, ◌||◌, nat_lt, if◌then◌else◌, List, [], ◌∷◌, length, map, Option, Some, None}
 use Rattle.std.specs.Bool.{then_some}
 use Rattle.xs_base.specs.declared.fault_codes.TheConstants.{FLOATING_POINT_IN_C, LITERAL_TOO_WIDE}
+use Rattle.xs_base.specs.declared.byte_runs.ByteClass.{ByteClass}
+use Rattle.xs_base.specs.declared.byte_runs.ByteClass.TheVariants as class
+use Rattle.xs_base.specs.ByteRuns.{after_run, belongs, front_of}
 use Rattle.xs_base.specs.Readers.{head_is}
 use Rattle.xs_base.specs.Scanning.{is_ascii_digit, starts_with}
 use Rattle.xs_values.specs.declared.literal.Base.{Base}
@@ -20,8 +23,14 @@ radix base.Decimal = 10
 radix base.Octal = 8
 radix base.Hexadecimal = 16
 
+-- the class of the digits of a base
+abbrev pub digits_in : Base → ByteClass
+digits_in base.Decimal = class.Digit
+digits_in base.Octal = class.Octal
+digits_in base.Hexadecimal = class.Hexadecimal
+
 abbrev pub is_digit_of : Base → ℕ → Bool
-is_digit_of b c = nat_lt (digit_value c) (radix b)
+is_digit_of b c = belongs (digits_in b) c
 
 -- the value of a digit of a base
 abbrev pub value_in : Base → ℕ → Option ℕ
@@ -29,13 +38,11 @@ value_in b c = then_some (is_digit_of b c) (digit_value c)
 
 -- the longest run of digits in front
 abbrev pub digits_of : Base → List ℕ → List ℕ
-digits_of b [] = []
-digits_of b (c ∷ cs) = if is_digit_of b c then c ∷ digits_of b cs else []
+digits_of b text = front_of (digits_in b) text
 
 -- what stands after it
 abbrev pub after_digits : Base → List ℕ → List ℕ
-after_digits b [] = []
-after_digits b (c ∷ cs) = if is_digit_of b c then after_digits b cs else c ∷ cs
+after_digits b text = after_run (digits_in b) text
 
 -- the value of digits
 abbrev pub value_of : Base → List ℕ → ℕ
@@ -124,11 +131,16 @@ after_hexadecimal_prefix (z ∷ []) = None
 after_hexadecimal_prefix (z ∷ x ∷ rest) =
     if z == 48 && (is_x x && head_is (is_digit_of base.Hexadecimal) rest) then Some rest else None
 
+-- A number is octal where another digit follows its `0`. So `0` alone is decimal, by which it gets
+-- the kind that it has as an octal literal (C11 6.4.4.1).
+abbrev pub is_octal : List ℕ → Bool
+is_octal [] = false
+is_octal (z ∷ rest) = z == 48 && head_is is_ascii_digit rest
+
 abbrev pub number_by : Option (List ℕ) → List ℕ → NumberFront
 number_by (Some rest) text = based_front base.Hexadecimal rest 2
 number_by None text =
-    if head_is (λ c. c == 48) text then based_front base.Octal text 0 else based_front base.Decimal
-    text 0
+    if is_octal text then based_front base.Octal text 0 else based_front base.Decimal text 0
 
 -- the number in front of a text that begins with a digit
 unfoldable pub number_front : List ℕ → NumberFront

@@ -7,7 +7,7 @@ use Rattle.xs_base.specs.Scanning.{is_ascii_digit, is_blank, is_identifier, is_w
 use Rattle.xs_values.specs.declared.literal.Base.{Base}
 use Rattle.xs_values.specs.declared.literal.Base.TheVariants as base
 use Rattle.xs_ctok.specs.CWords.{is_reserved}
-use Rattle.xs_ctok.specs.Numerals.{after_hexadecimal_prefix, is_digit_of, is_floating, is_x, suffix_of, suffixed, value_in, value_of}
+use Rattle.xs_ctok.specs.Numerals.{after_hexadecimal_prefix, is_digit_of, is_floating, is_octal, is_x, suffix_of, suffixed, value_in, value_of}
 use Rattle.xs_ctok.specs.Punctuators.{is_double, is_single, is_triple}
 use Rattle.xs_ctok.specs.QuotedTexts.{octal_value, simple_escape}
 use Rattle.xs_ctok.specs.declared.token.Literal.{Literal}
@@ -16,11 +16,13 @@ use Rattle.xs_ctok.specs.declared.token.TokKind.TheVariants as kind
 
 -- ---- integers
 
--- What stands before the digits of a base, and what stands from the digits on.
+-- What stands before the digits of a base, and what stands from the digits on. `0` alone is
+-- decimal.
 pub data IsPrefix : Base → List ℕ → List ℕ → Type 0 where
-  decimal : {text : List ℕ} → head_is (λ c. c == 48) text ≡ false → IsPrefix base.Decimal [] text
-  octal : {text : List ℕ} → head_is (λ c. c == 48) text ≡ true
-      → after_hexadecimal_prefix text ≡ None → IsPrefix base.Octal [] text
+  decimal : {text : List ℕ} → is_octal text ≡ false → after_hexadecimal_prefix text ≡ None
+      → IsPrefix base.Decimal [] text
+  octal : {text : List ℕ} → is_octal text ≡ true → after_hexadecimal_prefix text ≡ None
+      → IsPrefix base.Octal [] text
   hexadecimal : {x : ℕ} {text : List ℕ} → is_x x ≡ true
       → IsPrefix base.Hexadecimal (48 ∷ x ∷ []) text
 

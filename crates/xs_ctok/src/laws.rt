@@ -1,5 +1,5 @@
 //! Laws of the definitions, for all texts.
-ghost use Rattle.xs_ctok.specs.Laws.{CodesLaw, JoinedLaw, PlacedLaw, RelinedLaw, SpelledLaw, SuffixLaw};
+ghost use Rattle.xs_ctok.specs.Laws.{CodesLaw, DigitLaw, JoinedLaw, PlacedLaw, RelinedLaw, SpelledLaw, SuffixLaw};
 
 /// Lines that have tokens add these to the tokens of the lines after them, and lines that have them
 /// alone have them together.
@@ -33,6 +33,13 @@ pub fn placed_law()
 #[tactic(auto, using(crate::proofs::LongestSuffixes::suffix_law))]
 pub fn suffix_law()
     ensures { SuffixLaw }
+{}
+
+/// A decimal integer below 10 without a suffix is its digit alone. `0` counts as decimal, and has
+/// the kind that it has as an octal integer.
+#[tactic(auto, using(crate::proofs::DigitsAlone::digit_law))]
+pub fn digit_law()
+    ensures { DigitLaw }
 {}
 
 /// The codes of faults, where they do not follow from what begins at a place: integers of more than

@@ -8,7 +8,7 @@ ghost use Rattle.xs_ctok.specs.Numerals.{FitsNumber};
 
 use crate::token::Literal;
 use xs_base::fault_codes::{FLOATING_POINT_IN_C, LITERAL_TOO_WIDE};
-use xs_base::{ByteClass, starts_with, starts_with_class};
+use xs_base::{ByteClass, belongs, cut_run, starts_with, starts_with_class};
 use xs_values::{Base, Length, Suffix};
 
 /// No suffix.
@@ -63,16 +63,14 @@ fn radix(base: Base) -> u8
     }
 }
 
-/// The value of a digit of a base.
-pub fn value_in(base: Base, b: u8) -> Option<u8>
-    ensures value { result ≡ spec.value_in base b }
-    ensures within { IfSome result (λ v. v < spec.radix base) }
+// The class of the digits of a base.
+fn digits_in(base: Base) -> ByteClass
+    ensures { result ≡ spec.digits_in base }
 {
-    let value = digit_value(b);
-    if value < radix(base) {
-        Some(value)
-    } else {
-        None
+    match base {
+        Base::Decimal => ByteClass::Digit,
+        Base::Octal => ByteClass::Octal,
+        Base::Hexadecimal => ByteClass::Hexadecimal,
     }
 }
 
@@ -80,32 +78,30 @@ pub fn value_in(base: Base, b: u8) -> Option<u8>
 pub fn is_digit_of(base: Base, b: u8) -> bool
     ensures { result ≡ spec.is_digit_of base b }
 {
-    digit_value(b) < radix(base)
+    belongs(digits_in(base), b)
 }
 
-// How many digits of a base stand in front.
-fn digits_len(base: Base, text: &[u8]) -> usize
-    ensures run { result ≡ length (spec.digits_of base text.now) }
-    ensures within { result ≤ length text.now }
+/// The value of a digit of a base.
+#[tactic(auto, using(crate::proofs::DigitValues::digit_within))]
+pub fn value_in(base: Base, b: u8) -> Option<u8>
+    ensures value { result ≡ spec.value_in base b }
+    ensures within { IfSome result (λ v. v < spec.radix base) }
 {
-    let mut len = 0;
-    for b in text {
-        if !is_digit_of(base, *b) {
-            return len;
-        }
-        len += 1;
+    if is_digit_of(base, b) {
+        Some(digit_value(b))
+    } else {
+        None
     }
-    len
 }
 
 // The digits of a base in front, and what stands after them.
-#[tactic(auto, using(crate::proofs::DigitRuns::digits_are, crate::proofs::DigitRuns::after_is))]
+#[tactic(auto, using(xs_base::proofs::FrontRuns::run_sizes))]
 fn cut_digits(base: Base, text: &[u8]) -> (&[u8], &[u8])
     ensures front { result.0.now ≡ spec.digits_of base text.now }
     ensures after { result.1.now ≡ spec.after_digits base text.now }
     ensures sizes { length result.0.now + length result.1.now ≡ length text.now }
 {
-    text.split_at(digits_len(base, text))
+    cut_run(digits_in(base), text)
 }
 
 // The value of digits, if it has 64 bits.
@@ -129,10 +125,7 @@ fn value_of(base: Base, digits: &[u8]) -> Option<u64>
 fn starts_with_digit_of(base: Base, text: &[u8]) -> bool
     ensures { result ≡ head_is (spec.is_digit_of base) text.now }
 {
-    match text {
-        [first, ..] => is_digit_of(base, *first),
-        [] => false,
-    }
+    starts_with_class(digits_in(base), text)
 }
 
 // The digits after the `0x` of a hexadecimal integer, where one of them follows it.
@@ -232,7 +225,7 @@ fn suffix_of(text: &[u8]) -> (usize, Suffix)
 }
 
 // The integer of a base whose digits stand after so many bytes.
-#[tactic(auto, using(crate::proofs::DigitRuns::digits_some))]
+#[tactic(auto, using(xs_base::proofs::FrontRuns::front_some))]
 fn integer_front(base: Base, text: &[u8], before: usize) -> NumberFront
     requires room { before ≤ 2 }
     requires digit { head_is (spec.is_digit_of base) text.now ≡ true }
@@ -266,6 +259,16 @@ fn based_front(base: Base, text: &[u8], before: usize) -> NumberFront
     }
 }
 
+// Whether the number in front is octal: a `0` that another digit follows.
+fn is_octal(text: &[u8]) -> bool
+    ensures { result ≡ spec.is_octal text.now }
+{
+    match text {
+        [zero, rest @ ..] => *zero == b'0' && starts_with_class(ByteClass::Digit, rest),
+        [] => false,
+    }
+}
+
 /// The number in front of a text that begins with a digit: the longest integer (C11 6.4.4.1), or
 /// the fault of one of more than 64 bits or of one with a point or an exponent.
 #[tactic(auto, unfolding(crate::specs::Numerals::number_front))]
@@ -277,7 +280,7 @@ pub fn number_front(text: &[u8]) -> NumberFront
     match after_hexadecimal_prefix(text) {
         Some(digits) => based_front(Base::Hexadecimal, digits, 2),
         None => {
-            if starts_with(b"0", text) {
+            if is_octal(text) {
                 based_front(Base::Octal, text, 0)
             } else {
                 based_front(Base::Decimal, text, 0)

@@ -38,23 +38,6 @@ pub const DROPPED_WORDS: [&str; 10] = [
 /// Words that are passed over with the `;` after them (perlguts).
 pub const DROPPED_STATEMENTS: [&str; 3] = ["dNOOP", "dTHX", "dVAR"];
 
-/// Further reserved words: flags, macros and constants of perl.h (perlapi, perlcall), and NULL.
-pub const OTHER_RESERVED: [&str; 13] = [
-    "GV_ADD",
-    "G_ARRAY",
-    "G_DISCARD",
-    "G_EVAL",
-    "G_LIST",
-    "G_SCALAR",
-    "NULL",
-    "PERL_UNUSED_VAR",
-    "SVt_PVAV",
-    "SVt_PVHV",
-    "XSANY",
-    "any_i32",
-    "gv_stashpv",
-];
-
 /// Whether a word names a type, whatever the file declares.
 #[tactic(auto, unfolding(crate::specs::CWords::is_type_word))]
 pub fn is_type_word(word: &[u8]) -> bool
@@ -96,5 +79,4 @@ pub fn is_reserved(word: &[u8]) -> bool
         || is_dropped_word(word)
         || is_dropped_statement(word)
         || is_interface_word(word)
-        || is_among(&OTHER_RESERVED, word)
 }

@@ -1,16 +1,20 @@
 -- An arena that extends another: what the first names is in the second as it was.
-use Rattle.std.proofs.Common.{append-nil, ◌≡◌, ℕ, zero, suc, ◌+◌, ◌<◌, ◌≤◌, true, List, [], ◌∷◌, ◌++◌, length, take, drop, Some, refl, sym, ap, ◌∙◌, subst, arith, length-append, length-drop}
-use Rattle.std.specs.Prelude.{slice_get, slice_index_or, nat_lt}
-use Rattle.std.proofs.lemmas.Bool.{and_parts, and_from, ltb-true}
+use Rattle.std.proofs.Common.{◌≡◌, ℕ, zero, suc, ◌+◌, ◌<◌, ◌≤◌, true, List, [], ◌∷◌, ◌++◌, length, take, drop, Some, refl, sym, ap, ◌∙◌, subst, arith, length-append, length-drop}
+use Rattle.std.specs.List.{list_all}
+use Rattle.std.specs.Prelude.{◌-◌, nat_lt, slice_get, slice_index_or, Option, None}
+use Rattle.std.proofs.lemmas.Bool.{and_parts, and_from}
 use Rattle.std.proofs.lemmas.Bool.Decides.{nat_tests}
 use Rattle.std.proofs.lemmas.List.{get_or_append_left, take-append-le, drop-append-le, drop_at, take_all}
+use Rattle.std.proofs.lemmas.Option.{same_Some}
 use Rattle.xs_ctree.specs.declared.node.ExprNode.{ExprNode}
 use Rattle.xs_ctree.specs.declared.node.ExprNode.TheVariants as expr_node
+use Rattle.xs_ctree.specs.declared.node.GroupNode.{GroupNode}
 use Rattle.xs_ctree.specs.declared.node.Range.{Range}
 use Rattle.xs_ctree.specs.declared.node.StmtNode.{StmtNode}
 use Rattle.xs_ctree.specs.declared.node.StmtNode.TheVariants as stmt_node
-use Rattle.xs_ctree.specs.declared.value_type.Slot.{Slot}
-use Rattle.xs_ctree.specs.Arena.{Arena, arena, ranged, is_within, all_below, expr_fits, stmt_fits}
+use Rattle.xs_ctree.specs.declared.node.TestNode.{TestNode}
+use Rattle.xs_ctree.specs.declared.node.TestNode.TheVariants as test_node
+use Rattle.xs_ctree.specs.Arena.{Arena, ranged, is_within, all_below, parts_fit, group_fits, groups_fit, option_below, test_fits, expr_fits, stmt_fits}
 
 -- a list has another at its front
 pub record Begins {X : Type 0} (xs ys : List X) : Type 0 where
@@ -23,6 +27,8 @@ pub record Extends (a b : Arena) : Type 0 where
   pub texts : Begins a.texts b.texts
   pub parts : Begins a.parts b.parts
   pub slots : Begins a.slots b.slots
+  pub labels : Begins a.labels b.labels
+  pub groups : Begins a.groups b.groups
   pub exprs : Begins a.exprs b.exprs
   pub stmts : Begins a.stmts b.stmts
 
@@ -45,6 +51,23 @@ range_left xs ys r h =
     let le : r.start + r.count ≤ length xs = within_le xs r h in
     ap (λ s. take r.count s) (drop-append-le r.start xs ys (omega (arith, le)))
     ∙ take-append-le r.count (drop r.start xs) ys (omega (arith, le, length-drop r.start xs))
+
+-- a range that begins with an element
+first_of : {X : Type 0} (xs : List X) (start count : ℕ) (x : X) → Some x ≡ slice_get xs start
+    → take (suc count) (drop start xs) ≡ x ∷ take count (drop (start + 1) xs)
+first_of [] zero count x e = absurd cc
+first_of [] (suc start) count x e = absurd cc
+first_of (y ∷ xs) zero count x e = ap (λ z. z ∷ take count xs) (sym (same_Some x y e))
+first_of (y ∷ xs) (suc start) count x e = let next : suc start + 1 ≡ suc (start + 1) = omega arith in rw next (first_of xs start count x e)
+
+one_and_more : (n : ℕ) → (n ≡ 0 → ⊥) → n ≡ suc (n - 1)
+one_and_more zero h = absurd (h refl)
+one_and_more (suc n) h = omega arith
+
+pub first_ranged : {X : Type 0} (xs : List X) (r : Range) (x : X) → Some x ≡ slice_get xs r.start → (r.count ≡ 0 → ⊥)
+    → ranged xs r ≡ x ∷ ranged xs (record { start = r.start + 1; count = r.count - 1 })
+first_ranged xs r x e some =
+    ap (λ n. take n (drop r.start xs)) (one_and_more r.count some) ∙ first_of xs r.start (r.count - 1) x e
 
 -- the range of what was added
 pub range_added : {X : Type 0} (xs ys : List X) (r : Range) → r.start ≡ length xs → r.count ≡ length ys → ranged (xs ++ ys) r ≡ ys
@@ -73,30 +96,57 @@ lt_le i m n le h = grind (arith, nat_tests)
 within_longer : {X : Type 0} (xs ys : List X) (r : Range) → length xs ≤ length ys → is_within xs r ≡ true → is_within ys r ≡ true
 within_longer xs ys r le h = grind (arith, nat_tests)
 
-module _ (a b : Arena) (ext : Extends a b) (i : ℕ) where
-  pub expr_fits_still : (n : ExprNode) → expr_fits a i n ≡ true → expr_fits b i n ≡ true
-  expr_fits_still (expr_node.Literal n) h = refl
-  expr_fits_still (expr_node.Variable x) h = refl
-  expr_fits_still expr_node.ItemCount h = refl
-  expr_fits_still (expr_node.Cast t e) h = h
-  expr_fits_still (expr_node.Binary op x y) h = h
-  expr_fits_still (expr_node.Assign at to e) h = h
-  expr_fits_still (expr_node.Api at r es) h =
+test_still : (m n : ℕ) (t : TestNode) → m ≤ n → test_fits m t ≡ true → test_fits n t ≡ true
+test_still m n test_node.Always le h = refl
+test_still m n (test_node.When e) le h = lt_le e m n le h
+
+option_still : (m n : ℕ) (o : Option ℕ) → m ≤ n → option_below m o ≡ true → option_below n o ≡ true
+option_still m n None le h = refl
+option_still m n (Some e) le h = lt_le e m n le h
+
+module _ (a b : Arena) (i : ℕ) (parts : Begins a.parts b.parts) where
+  parts_still : (r : Range) → parts_fit a i r ≡ true → parts_fit b i r ≡ true
+  parts_still r h =
       let d = and_parts _ _ h in
-      and_from _ _ (within_longer a.parts b.parts es ext.parts.longer d.0) (subst (λ ps. all_below i ps ≡ true) (sym (ext.parts.range es d.0)) d.1)
+      and_from _ _ (within_longer a.parts b.parts r parts.longer d.0) (subst (λ ps. all_below i ps ≡ true) (sym (parts.range r d.0)) d.1)
+
+  module _ (labels : Begins a.labels b.labels) where
+    group_still : (g : GroupNode) → group_fits a i g ≡ true → group_fits b i g ≡ true
+    group_still g h = let d = and_parts _ _ h in and_from _ _ (within_longer a.labels b.labels g.labels labels.longer d.0) (parts_still g.body d.1)
+
+    pub all_still : (gs : List GroupNode) → list_all (group_fits a i) gs ≡ true → list_all (group_fits b i) gs ≡ true
+    all_still [] h = refl
+    all_still (g ∷ gs) h = let d = and_parts _ _ h in and_from _ _ (group_still g d.0) (all_still gs d.1)
+
+module _ (a b : Arena) (ext : Extends a b) (i : ℕ) where
+  list_still : (r : Range) → parts_fit a i r ≡ true → parts_fit b i r ≡ true
+  list_still r h = parts_still a b i ext.parts r h
+
+  groups_still : (r : Range) → groups_fit a i r ≡ true → groups_fit b i r ≡ true
+  groups_still r h =
+      let d = and_parts _ _ h in
+      and_from _ _ (within_longer a.groups b.groups r ext.groups.longer d.0)
+      (subst (λ gs. list_all (group_fits b i) gs ≡ true) (sym (ext.groups.range r d.0)) (all_still a b i ext.parts ext.labels (ranged a.groups r) d.1))
+
+  pub expr_fits_still : (n : ExprNode) → expr_fits a i n ≡ true → expr_fits b i n ≡ true
+  expr_fits_still (expr_node.Letters t) h = lt_le t _ _ ext.texts.longer h
+  expr_fits_still (expr_node.Api at r es) h = list_still es h
+  expr_fits_still (expr_node.Croak at t es) h = let d = and_parts _ _ h in and_from _ _ (lt_le t _ _ ext.texts.longer d.0) (list_still es d.1)
   expr_fits_still (expr_node.Usage at t) h = lt_le t _ _ ext.texts.longer h
+  expr_fits_still (expr_node.Call at f es) h = list_still es h
+  expr_fits_still _ h = h
 
   pub stmt_fits_still : (n : StmtNode) → stmt_fits a i n ≡ true → stmt_fits b i n ≡ true
   stmt_fits_still (stmt_node.Block slots ss) h =
+      let d = and_parts _ _ h in and_from _ _ (within_longer a.slots b.slots slots ext.slots.longer d.0) (list_still ss d.1)
+  stmt_fits_still (stmt_node.Effect e) h = lt_le e _ _ ext.exprs.longer h
+  stmt_fits_still (stmt_node.If at e s t) h = let d = and_parts _ _ h in and_from _ _ (lt_le e _ _ ext.exprs.longer d.0) d.1
+  stmt_fits_still (stmt_node.Loop at first test each s) h =
       let d = and_parts _ _ h in
       let d1 = and_parts _ _ d.1 in
-      and_from _ _ (within_longer a.slots b.slots slots ext.slots.longer d.0)
-      (and_from _ _ (within_longer a.parts b.parts ss ext.parts.longer d1.0)
-      (subst (λ ps. all_below i ps ≡ true) (sym (ext.parts.range ss d1.0)) d1.1))
-  stmt_fits_still (stmt_node.Effect e) h = lt_le e _ _ ext.exprs.longer h
-  stmt_fits_still (stmt_node.Declare at x) h = refl
-  stmt_fits_still (stmt_node.If at e s t) h =
-      let d = and_parts _ _ h in
-      and_from _ _ (lt_le e _ _ ext.exprs.longer d.0) d.1
+      and_from _ _ (test_still _ _ test ext.exprs.longer d.0) (and_from _ _ (option_still _ _ each ext.exprs.longer d1.0) d1.1)
+  stmt_fits_still (stmt_node.Switch at k e gs) h = let d = and_parts _ _ h in and_from _ _ (lt_le e _ _ ext.exprs.longer d.0) (groups_still gs d.1)
+  stmt_fits_still (stmt_node.Give at e) h = lt_le e _ _ ext.exprs.longer h
   stmt_fits_still (stmt_node.Quit at e) h = lt_le e _ _ ext.exprs.longer h
-  stmt_fits_still (stmt_node.Register t f) h = lt_le t _ _ ext.texts.longer h
+  stmt_fits_still (stmt_node.Register t f keeps) h = lt_le t _ _ ext.texts.longer h
+  stmt_fits_still _ h = h

@@ -3,13 +3,15 @@ use Rattle.std.specs.Prelude.{◌≡◌, ℕ, List, [], length, map, Option, Som
 use Rattle.std.specs.List.{position_from}
 use Rattle.xs_ctree.specs.declared.node.Callable.{Callable}
 use Rattle.xs_ctree.specs.declared.typed.Typed.{Typed}
+use Rattle.xs_ctree.specs.declared.value_type.RecordType.{RecordType}
 use Rattle.xs_ctree.specs.Arena.{Arena, arena, expr_at, function_of, stmt_at}
 use Rattle.xs_ctree.specs.TypedTree.{Code, Expr, Function, Stmt, is_boot}
 
 -- what the nodes of a file are read from
 abbrev pub arena_of : Typed → Arena
 arena_of t =
-    arena t.texts.items t.parts.items t.slots.items t.exprs.items t.stmts.items
+    arena t.texts.items t.parts.items t.slots.items t.labels.items t.groups.items t.exprs.items
+    t.stmts.items
 
 -- the expression and the statement at an index
 abbrev pub expr_in : Typed → ℕ → Expr
@@ -21,9 +23,12 @@ stmt_in t i = stmt_at (arena_of t) i
 abbrev pub functions_in : Typed → List Function
 functions_in t = map (function_of (arena_of t)) t.functions.items
 
+abbrev pub records_in : Typed → List RecordType
+records_in t = t.records.items
+
 -- the code that a file of nodes stands for
 abbrev pub code_of : Typed → Code
-code_of t = record { functions = functions_in t }
+code_of t = record { records = records_in t; functions = functions_in t }
 
 -- the function of a number
 abbrev pub function_at : Code → Option ℕ → Option Function

@@ -1,13 +1,15 @@
 //! Code while it is made: parts come before the whole.
 ghost use Rattle.std.specs.Prelude.{◌≡◌, ◌+◌, ◌<◌, ◌++◌, ◌^◌, IfOk, OnErr, Some, [], length, map, true};
+ghost use Rattle.std.specs.List.{list_all};
 ghost use Rattle.xs_ctree.specs.TypedTree as tree;
 
-use crate::node::{ExprNode, FunctionNode, Range, StmtNode};
+use crate::node::{ExprNode, FunctionNode, Group, GroupNode, Range, StmtNode};
 use crate::typed::Typed;
-use crate::value_type::Slot;
+use crate::value_type::{RecordType, Slot};
 use std::alloc::Global;
 use xs_base::{Bytes, Memory};
 use xs_perlapi::Row;
+use xs_values::{CInt, Kind};
 
 // The index that comes after so many.
 fn next_index(count: usize) -> Result<u32, Memory>
@@ -35,19 +37,23 @@ fn range_after(before: usize, count: usize) -> Result<Range, Memory>
 
 impl Typed {
     ghost use Rattle.xs_ctree.specs.Arena.{all_below, expr_fits, expr_from, stmt_fits, stmt_from};
-    ghost use Rattle.xs_ctree.specs.Functions.{arena_of, expr_in, functions_in, stmt_in};
-    ghost use Rattle.xs_ctree.specs.Growth.{AddsExpr, AddsFunction, AddsParts, AddsSlots, AddsStmt, AddsText};
+    ghost use Rattle.xs_ctree.specs.Functions.{arena_of, expr_in, functions_in, records_in, stmt_in};
+    ghost use Rattle.xs_ctree.specs.Growth.{AddsExpr, AddsFunction, AddsGroup, AddsGroups, AddsLabels, AddsParts, AddsRecord, AddsSlots, AddsStmt, AddsText, groups_in, has_stmts};
 
-    /// Code of no function.
+    /// Code of no record and no function.
     pub fn new(alloc: Global) -> Typed
-        ensures { functions_in result ≡ [] }
+        ensures functions { functions_in result ≡ [] }
+        ensures records { records_in result ≡ [] }
     {
         Typed {
             exprs: Vec::new(alloc),
             stmts: Vec::new(alloc),
             parts: Vec::new(alloc),
             slots: Vec::new(alloc),
+            labels: Vec::new(alloc),
+            groups: Vec::new(alloc),
             texts: Vec::new(alloc),
+            records: Vec::new(alloc),
             functions: Vec::new(alloc),
         }
     }
@@ -102,6 +108,14 @@ impl Typed {
         Ok(index)
     }
 
+    /// Adds a text literal.
+    pub fn add_letters(&mut self, text: Bytes) -> Result<u32, Memory>
+        ensures { IfOk result (λ i. AddsExpr self.old (tree.Letters text) i self.new) }
+    {
+        let text = self.add_text(text)?;
+        self.add_expr(ExprNode::Letters(text))
+    }
+
     /// Adds a row of Perl's API with its operands.
     pub fn add_row(&mut self, line: u32, row: Row, operands: &[u32]) -> Result<u32, Memory>
         requires { all_below (length self.old.exprs.items) operands.now ≡ true }
@@ -110,6 +124,29 @@ impl Typed {
     {
         let range = self.add_parts(operands)?;
         self.add_expr(ExprNode::Api(line, row, range))
+    }
+
+    /// Adds the call of a helper with its arguments.
+    pub fn add_call(&mut self, line: u32, function: u32, args: &[u32]) -> Result<u32, Memory>
+        requires { all_below (length self.old.exprs.items) args.now ≡ true }
+        ensures { IfOk result (λ i. AddsExpr self.old
+            (tree.Call line function (tree.exprs_of (map (expr_in self.old) args.now))) i
+            self.new) }
+    {
+        let range = self.add_parts(args)?;
+        self.add_expr(ExprNode::Call(line, function, range))
+    }
+
+    /// Adds `croak` with its format and operands.
+    pub fn add_croak(&mut self, line: u32, format: Bytes, operands: &[u32]) -> Result<u32, Memory>
+        requires { all_below (length self.old.exprs.items) operands.now ≡ true }
+        ensures { IfOk result (λ i. AddsExpr self.old
+            (tree.Croak line format (tree.exprs_of (map (expr_in self.old) operands.now))) i
+            self.new) }
+    {
+        let text = self.add_text(format)?;
+        let range = self.add_parts(operands)?;
+        self.add_expr(ExprNode::Croak(line, text, range))
     }
 
     /// Adds `croak_xs_usage` with the text of the parameters.
@@ -131,12 +168,75 @@ impl Typed {
         self.add_stmt(StmtNode::Block(slots, body))
     }
 
-    /// Adds the registration of a function under a Perl name.
-    pub fn add_register(&mut self, full: Bytes, function: u32) -> Result<u32, Memory>
-        ensures { IfOk result (λ i. AddsStmt self.old (tree.Register full function) i self.new) }
+    /// Adds a `switch` whose value is there, with the kind in which its labels are compared, and
+    /// its groups, whose statements are there.
+    pub fn add_switch(
+        &mut self,
+        line: u32,
+        kind: Kind,
+        value: u32,
+        groups: &[Group],
+    ) -> Result<u32, Memory>
+        requires value { value < length self.old.exprs.items }
+        requires groups { list_all (has_stmts self.old) groups.now ≡ true }
+        ensures { IfOk result (λ i. AddsStmt self.old
+            (tree.Switch line kind (expr_in self.old value) (groups_in self.old groups.now)) i
+            self.new) }
+    {
+        let range = self.add_groups(groups)?;
+        self.add_stmt(StmtNode::Switch(line, kind, value, range))
+    }
+
+    // Adds the labels of a group, and gives their range.
+    fn add_labels(&mut self, labels: &[Option<CInt>]) -> Result<Range, Memory>
+        ensures { IfOk result (λ r. AddsLabels self.old labels.now r self.new) }
+    {
+        let range = range_after(self.labels.len(), labels.len())?;
+        self.labels.extend_from_slice(labels)?;
+        Ok(range)
+    }
+
+    // Adds the labels and the statements of a group, and gives its node.
+    fn add_group(&mut self, group: &Group) -> Result<GroupNode, Memory>
+        requires { has_stmts self.old group.now ≡ true }
+        ensures { IfOk result (λ n. AddsGroup self.old group.now n self.new) }
+    {
+        let labels = self.add_labels(group.labels.as_slice())?;
+        let body = self.add_parts(group.body.as_slice())?;
+        Ok(GroupNode { labels, body })
+    }
+
+    // Adds groups, and gives their range.
+    fn add_groups(&mut self, groups: &[Group]) -> Result<Range, Memory>
+        requires { list_all (has_stmts self.old) groups.now ≡ true }
+        ensures { IfOk result (λ r. AddsGroups self.old groups.now r self.new) }
+    {
+        let range = range_after(self.groups.len(), groups.len())?;
+        for group in groups {
+            let node = self.add_group(group)?;
+            self.groups.push(node)?;
+        }
+        Ok(range)
+    }
+
+    /// Adds the registration of a function under a Perl name, which `cv` keeps or not.
+    pub fn add_register(&mut self, full: Bytes, function: u32, keeps: bool) -> Result<u32, Memory>
+        ensures { IfOk result (λ i. AddsStmt self.old (tree.Register full function keeps) i
+            self.new) }
     {
         let text = self.add_text(full)?;
-        self.add_stmt(StmtNode::Register(text, function))
+        self.add_stmt(StmtNode::Register(text, function, keeps))
+    }
+
+    /// Adds a record.
+    pub fn add_record(&mut self, record_type: RecordType) -> Result<(), Memory>
+        ensures { IfOk result (λ _. AddsRecord self.old record_type self.new) }
+    {
+        if self.records.len() >= u32::MAX as usize {
+            return Err(Memory);
+        }
+        self.records.push(record_type)?;
+        Ok(())
     }
 
     /// Adds a function whose body is there.

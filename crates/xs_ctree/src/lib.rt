@@ -7,6 +7,9 @@ mod node;
 mod typed;
 mod value_type;
 
-pub use node::{Callable, ExprNode, FunctionNode, Range, Sort, StmtNode, TargetNode};
+pub use node::{
+    Callable, ExprNode, FunctionNode, Group, GroupNode, Range, Sort, StepOp, StmtNode, TargetNode,
+    TestNode,
+};
 pub use typed::Typed;
-pub use value_type::{Slot, ValueType};
+pub use value_type::{RecordType, Slot, ValueType};

@@ -3,10 +3,11 @@ ghost use Rattle.std.specs.Option.{option_copied};
 ghost use Rattle.std.specs.Prelude.{◌≡◌, ◌∷◌, ◌<◌, ◌^◌, IfOk, IfSome, MatchOption, [], length, slice_get, slice_index_or, true};
 ghost use Rattle.xs_ctree.specs.Arena.{Fits, arena, ranged};
 
-use crate::node::{Callable, ExprNode, FunctionNode, Range, StmtNode, is_boot};
-use crate::value_type::Slot;
+use crate::node::{Callable, ExprNode, FunctionNode, GroupNode, Range, StmtNode, is_boot};
+use crate::value_type::{RecordType, Slot};
 use std::alloc::Global;
 use xs_base::{Bytes, Memory};
+use xs_values::CInt;
 
 /// A file whose names are resolved and whose types are right.
 #[derive(Debug, Drop)]
@@ -17,17 +18,24 @@ pub struct Typed {
     pub parts: Vec<u32>,
     /// The slots that blocks declare.
     pub slots: Vec<Slot>,
+    /// The labels of groups, None for `default`.
+    pub labels: Vec<Option<CInt>>,
+    /// The groups of switches.
+    pub groups: Vec<GroupNode>,
     pub texts: Vec<Bytes>,
+    pub records: Vec<RecordType>,
     pub functions: Vec<FunctionNode>,
-    ghost fits: { Fits (arena texts.items parts.items slots.items exprs.items stmts.items)
-        functions.items },
+    ghost fits: { Fits (arena texts.items parts.items slots.items labels.items groups.items
+        exprs.items stmts.items) functions.items },
     ghost few: { length functions.items < 2 ^ 32 },
     ghost few_parts: { length parts.items < 2 ^ 32 },
+    ghost few_labels: { length labels.items < 2 ^ 32 },
+    ghost few_groups: { length groups.items < 2 ^ 32 },
 }
 
 impl Typed {
     ghost use Rattle.xs_ctree.specs.Arena.{expr_fits, expr_from, stmt_fits, stmt_from};
-    ghost use Rattle.xs_ctree.specs.Functions.{Callee, arena_of, boot_at, code_of, expr_in, function_at, name_of, stmt_in};
+    ghost use Rattle.xs_ctree.specs.Functions.{Callee, arena_of, boot_at, code_of, expr_in, function_at, name_of, records_in, stmt_in};
 
     /// The node of the expression at an index. Its tree is made of its parts' trees.
     pub fn expr(&self, i: u32) -> Option<ExprNode>
@@ -53,6 +61,29 @@ impl Typed {
             (λ p. ranged self.now.parts.items range ≡ p.0 ∷ ranged self.now.parts.items p.1) }
     {
         first_in(&self.parts, range)
+    }
+
+    /// The first label of a range, and the range of the others.
+    pub fn first_label(&self, range: Range) -> Option<(Option<CInt>, Range)>
+        ensures { MatchOption result (ranged self.now.labels.items range ≡ [])
+            (λ p. ranged self.now.labels.items range ≡ p.0 ∷ ranged self.now.labels.items p.1) }
+    {
+        first_in(&self.labels, range)
+    }
+
+    /// The first group of a range, and the range of the others.
+    pub fn first_group(&self, range: Range) -> Option<(GroupNode, Range)>
+        ensures { MatchOption result (ranged self.now.groups.items range ≡ [])
+            (λ p. ranged self.now.groups.items range ≡ p.0 ∷ ranged self.now.groups.items p.1) }
+    {
+        first_in(&self.groups, range)
+    }
+
+    /// The record of a number.
+    pub fn record(&self, n: u32) -> Option<&RecordType>
+        ensures { option_copied result ≡ slice_get (records_in self.now) n }
+    {
+        self.records.get(n as usize)
     }
 
     /// The text of a number, which is empty where there is no such text.
@@ -127,22 +158,22 @@ fn stmt_node(nodes: &Vec<StmtNode>, i: u32) -> Option<StmtNode>
     nodes.get(i as usize).copied()
 }
 
-fn part(parts: &Vec<u32>, i: u32) -> Option<u32>
-    ensures { result ≡ slice_get parts.now.items i }
+fn element<T: Copy>(items: &Vec<T>, i: u32) -> Option<T>
+    ensures { result ≡ slice_get items.now.items i }
 {
-    parts.get(i as usize).copied()
+    items.get(i as usize).copied()
 }
 
 // The first element of a range, and the range of the others.
-fn first_in(parts: &Vec<u32>, range: Range) -> Option<(u32, Range)>
-    requires { length parts.now.items < 2 ^ 32 }
-    ensures { MatchOption result (ranged parts.now.items range ≡ [])
-        (λ p. ranged parts.now.items range ≡ p.0 ∷ ranged parts.now.items p.1) }
+fn first_in<T: Copy>(items: &Vec<T>, range: Range) -> Option<(T, Range)>
+    requires { length items.now.items < 2 ^ 32 }
+    ensures { MatchOption result (ranged items.now.items range ≡ [])
+        (λ p. ranged items.now.items range ≡ p.0 ∷ ranged items.now.items p.1) }
 {
     if range.count == 0 {
         return None;
     }
-    match part(parts, range.start) {
+    match element(items, range.start) {
         None => None,
         Some(first) => Some((
             first,

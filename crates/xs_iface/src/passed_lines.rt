@@ -1,12 +1,13 @@
 //! Lines of C that give nothing but an `#include` or PERL_NO_GET_CONTEXT.
 ghost use Rattle.std.specs.List.{list_all};
 ghost use Rattle.std.specs.Prelude.{◌≡◌, IfOk};
-ghost use Rattle.std.specs.Str.Lines.{strip_carriage_return};
 ghost use Rattle.xs_base.specs.Lines.{has_no_end};
 ghost use Rattle.xs_iface.specs.PassedLines as spec;
 
 use std::alloc::Global;
-use xs_base::{Bytes, FileOf, Items, Line, Memory, Refuse, is_blank_line, is_remark};
+use xs_base::{
+    Bytes, FileOf, Items, Line, Memory, Refuse, is_blank_line, is_remark, without_carriage_return,
+};
 use xs_ctok::{TokKind, Token, are_short, tokens};
 
 fn is_passed_kind(kind: &TokKind) -> bool
@@ -43,15 +44,6 @@ fn may_pass(text: &[u8]) -> bool
     ensures { result ≡ spec.may_pass text.now }
 {
     has_no_end(text) && (is_blank_line(text) || is_remark(text))
-}
-
-fn without_carriage_return(text: &[u8]) -> &[u8]
-    ensures { result.now ≡ strip_carriage_return text.now }
-{
-    match text {
-        [front @ .., 13] => front,
-        _ => text,
-    }
 }
 
 // The bytes as the one line of a C text.

@@ -1,7 +1,7 @@
 -- Code runs as it does without its places.
 use Rattle.std.proofs.Common.{◌≡◌, ℕ, zero, suc, List, [], ◌∷◌, map, length, Option, Some, None, refl, sym, ap, ap₂, ◌∙◌}
 use Rattle.std.specs.Option.{option_map}
-use Rattle.std.specs.Prelude.{Bool, replicate, slice_get}
+use Rattle.std.specs.Prelude.{Bool, false, replicate, slice_get}
 use Rattle.std.proofs.lemmas.List.{length-map}
 use Rattle.std.proofs.lemmas.Option.{slice_get-map}
 use Rattle.xs_perlapi.specs.declared.row.Row.TheVariants.{StSet}
@@ -31,15 +31,12 @@ chosen_alike b σ o p q r e g = ap₂ (choose b σ) e g
 module _ {S : Type 0} (P : Prims S) where
   mutual
     eval_bare : (e : Expr) (σ : State S) → eval P (bare_expr e) σ ≡ eval P e σ
-    eval_bare (Literal n) σ = refl
-    eval_bare (Variable x) σ = refl
-    eval_bare ItemCount σ = refl
     eval_bare (Cast t e) σ = goes_alike _ _ _ _ (eval_bare e σ) (λ v σ1. refl)
     eval_bare (Binary op a b) σ = goes_alike _ _ _ _ (eval_bare a σ) (λ v σ1. goes_alike _ _ _ _ (eval_bare b σ1) (λ u σ2. refl))
     eval_bare (Assign at (ToVariable x t) e) σ = goes_alike _ _ _ _ (eval_bare e σ) (λ v σ1. refl)
     eval_bare (Assign at (ToItem i) e) σ = goes_alike _ _ _ _ (eval_bare e σ) (λ v σ1. goes_alike _ _ _ _ (eval_bare i σ1) (λ u σ2. refl))
     eval_bare (Api at r es) σ = goes_alike _ _ _ _ (evals_bare es σ) (λ vs σ1. refl)
-    eval_bare (Usage at text) σ = refl
+    eval_bare e σ = refl
 
     evals_bare : (es : Exprs) (σ : State S) → evals P (bare_exprs es) σ ≡ evals P es σ
     evals_bare NoExprs σ = refl
@@ -49,11 +46,11 @@ module _ {S : Type 0} (P : Prims S) where
     pub exec_bare : (s : Stmt) (σ : State S) → exec P (bare_stmt s) σ ≡ exec P s σ
     exec_bare (Block slots ss) σ = exec_all_bare ss σ
     exec_bare (Effect e) σ = goes_alike _ _ _ _ (eval_bare e σ) (λ v σ1. refl)
-    exec_bare (Declare at x) σ = refl
     exec_bare (If at e a b) σ =
         goes_alike _ _ _ _ (eval_bare e σ) (λ v σ1. chosen_alike (truth_of v) σ1 _ _ _ _ (exec_bare a σ1) (exec_bare b σ1))
     exec_bare (Quit at e) σ = goes_alike _ _ _ _ (eval_bare e σ) (λ v σ1. refl)
-    exec_bare (Register name f) σ = refl
+    exec_bare (Register name f false) σ = refl
+    exec_bare s σ = refl
 
     exec_all_bare : (ss : Stmts) (σ : State S) → exec_all P (bare_stmts ss) σ ≡ exec_all P ss σ
     exec_all_bare NoStmts σ = refl

@@ -19,7 +19,7 @@ use Rattle.xs_ctree.specs.TypedTree.{Expr, Literal, Variable, ItemCount, Cast, B
 use Rattle.xs_api.specs.World.{World, Swept, Clean, Dirty, depths_of}
 use Rattle.xs_api.specs.Effects.{Effect, Gives, Ends}
 use Rattle.xs_machine.specs.Dispatch.{Prims}
-use Rattle.xs_machine.specs.MachineState.{State, Out, Done, Stop, tick, lift, read_value, assigned, write_var, assign_as, given, calculate, item_count, operate, convert, truth_of}
+use Rattle.xs_machine.specs.MachineState.{State, Out, Done, Stop, tick, lift, read_value, assigned, write_var, assign_as, given, calculate, item_count, operate, convert, truth_of, unbuilt}
 use Rattle.xs_api.specs.Limits.{most_items}
 use Rattle.xs_machine.specs.Dispatch.{counted_rows}
 use Rattle.xs_machine.specs.Cmean.{dropped, exec}
@@ -187,6 +187,7 @@ module _ {S : Type 0} (P : Prims S) (code : Code) where
   assign_left at (ToVariable x t) e k vs σ = simple (DoExpr (Assign at (ToVariable x t) e) ∷ k) (DoExpr e ∷ SetVar x t ∷ k) vs σ σ (omega arith) (omega arith)
   assign_left at (ToItem i) e k vs σ =
       simple (DoExpr (Assign at (ToItem i) e) ∷ k) (DoExpr e ∷ DoExpr i ∷ DoRow StSet 2 ∷ k) vs σ σ (omega arith) (omega arith)
+  assign_left at to e k vs σ = land_left ◌∷◌ k vs (unbuilt {A = Operand} σ) σ.turns (all_size (DoExpr (Assign at to e) ∷ k)) (omega arith) (omega arith)
 
   expr_left : (e : Expr) (k : List Work) (vs : List Operand) (σ : State S) → left code (act_expr P e k vs σ) < σ.turns * most + all_size (DoExpr e ∷ k)
   expr_left (Literal n) k vs σ = simple (DoExpr (Literal n) ∷ k) k (Num n ∷ vs) σ σ (omega arith) (omega arith)
@@ -200,6 +201,7 @@ module _ {S : Type 0} (P : Prims S) (code : Code) where
   expr_left (Api at r es) k vs σ = simple (DoExpr (Api at r es) ∷ k) (DoExprs es ∷ DoRow r (expr_count es) ∷ k) vs σ σ (omega arith) (omega arith)
   expr_left (Usage at text) k vs σ = land_left ◌∷◌ k vs (lift (P.croak_usage text σ.frame σ.store) σ) σ.turns (all_size (DoExpr (Usage at text) ∷ k))
       (lift_turns (P.croak_usage text σ.frame σ.store) σ) (omega arith)
+  expr_left e k vs σ = land_left ◌∷◌ k vs (unbuilt {A = Operand} σ) σ.turns (all_size (DoExpr e ∷ k)) (omega arith) (omega arith)
 
   stmt_left : (s : Stmt) (k : List Work) (vs : List Operand) (σ : State S) → left code (act_stmt P s k vs σ) < σ.turns * most + all_size (DoStmt s ∷ k)
   stmt_left (Block slots ss) k vs σ = simple (DoStmt (Block slots ss) ∷ k) (DoStmts ss ∷ k) vs σ σ (omega arith) (omega arith)
@@ -207,9 +209,10 @@ module _ {S : Type 0} (P : Prims S) (code : Code) where
   stmt_left (Declare at x) k vs σ = simple (DoStmt (Declare at x) ∷ k) k vs σ (write_var x Unset σ) (omega arith) (omega arith)
   stmt_left (If at e a b) k vs σ = simple (DoStmt (If at e a b) ∷ k) (DoExpr e ∷ Branch a b ∷ k) vs σ σ (omega arith) (omega arith)
   stmt_left (Quit at e) k vs σ = simple (DoStmt (Quit at e) ∷ k) (DoExpr e ∷ DropTop ∷ k) vs σ σ (omega arith) (omega arith)
-  stmt_left (Register name f) k vs σ = land_left passed k vs (dropped (lift (P.register name f σ.frame σ.store) σ)) σ.turns
-      (all_size (DoStmt (Register name f) ∷ k))
+  stmt_left (Register name f false) k vs σ = land_left passed k vs (dropped (lift (P.register name f σ.frame σ.store) σ)) σ.turns
+      (all_size (DoStmt (Register name f false) ∷ k))
       (drop_turns (P.register name f σ.frame σ.store) σ) (omega arith)
+  stmt_left s k vs σ = land_left passed k vs (unbuilt {A = Unit {0}} σ) σ.turns (all_size (DoStmt s ∷ k)) (omega arith) (omega arith)
 
   act_left : (w : Work) (k : List Work) (vs : List Operand) (σ : State S) → left code (act P code w k vs σ) < σ.turns * most + all_size (w ∷ k)
   act_left (DoExpr e) k vs σ = expr_left e k vs σ

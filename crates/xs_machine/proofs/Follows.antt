@@ -75,9 +75,6 @@ module _ {S : Type 0} (P : Prims S) (code : Code) where
 
   mutual
     pub expr_follows : (e : Expr) (k : List Work) (vs : List Operand) (σ : State S) → Comes (run_on (DoExpr e ∷ k) vs σ) (land P ◌∷◌ k vs (eval P e σ))
-    expr_follows (Literal n) k vs σ = comes_on _ _ (comes_at _ _ refl)
-    expr_follows (Variable x) k vs σ = comes_on _ _ (comes_at _ _ refl)
-    expr_follows ItemCount k vs σ = comes_on _ _ (comes_at _ _ refl)
     expr_follows (Cast t e) k vs σ =
         comes_on _ _ (then_on ◌∷◌ ◌∷◌ _ (ToType t ∷ k) k vs vs (eval P e σ) (λ v σ1. convert t v σ1)
         (expr_follows e (ToType t ∷ k) vs σ) (λ a σ1. refl)
@@ -104,7 +101,7 @@ module _ {S : Type 0} (P : Prims S) (code : Code) where
         comes_on _ _ (then_row _ (expr_count es) (DoRow r (expr_count es)) k vs (evals P es σ) (λ l σ1. lift (P.row r l σ1.frame σ1.store) σ1)
         (operands_sized es σ) (exprs_follow es (DoRow r (expr_count es) ∷ k) vs σ) (λ a σ1. refl)
         (λ l σ1 e. comes_on _ _ (comes_at _ _ (ap (λ (x : List Operand × List Operand). land P ◌∷◌ k x.1 (lift (P.row r x.0 σ1.frame σ1.store) σ1)) e))))
-    expr_follows (Usage at text) k vs σ = comes_on _ _ (comes_at _ _ refl)
+    expr_follows e k vs σ = comes_on _ _ (comes_at _ _ refl)
 
     exprs_follow : (es : Exprs) (k : List Work) (vs : List Operand) (σ : State S)
         → Comes (run_on (DoExprs es ∷ k) vs σ) (land P reverse_aux k vs (evals P es σ))
@@ -126,13 +123,13 @@ module _ {S : Type 0} (P : Prims S) (code : Code) where
     pub stmt_follows : (s : Stmt) (k : List Work) (vs : List Operand) (σ : State S) → Comes (run_on (DoStmt s ∷ k) vs σ) (land P passed k vs (exec P s σ))
     stmt_follows (Block slots ss) k vs σ = comes_on _ _ (stmts_follow ss k vs σ)
     stmt_follows (Effect e) k vs σ = comes_on _ _ (dropped_follows e k vs σ)
-    stmt_follows (Declare at x) k vs σ = comes_on _ _ (comes_at _ _ refl)
     stmt_follows (If at e a b) k vs σ =
         comes_on _ _ (then_on ◌∷◌ passed _ (Branch a b ∷ k) k vs vs (eval P e σ) (λ v σ1. choose (truth_of v) σ1 (exec P a σ1) (exec P b σ1))
         (expr_follows e (Branch a b ∷ k) vs σ) (λ x σ1. refl)
         (λ v σ1. comes_on _ _ (choose_follows (truth_of v) a b k vs σ1 _ _ (stmt_follows a k vs σ1) (stmt_follows b k vs σ1))))
     stmt_follows (Quit at e) k vs σ = comes_on _ _ (dropped_follows e k vs σ)
-    stmt_follows (Register name f) k vs σ = comes_on _ _ (comes_at _ _ refl)
+    stmt_follows (Register name f false) k vs σ = comes_on _ _ (comes_at _ _ refl)
+    stmt_follows s k vs σ = comes_on _ _ (comes_at _ _ refl)
 
     stmts_follow : (ss : Stmts) (k : List Work) (vs : List Operand) (σ : State S) → Comes (run_on (DoStmts ss ∷ k) vs σ) (land P passed k vs (exec_all P ss σ))
     stmts_follow NoStmts k vs σ = comes_on _ _ (comes_at _ _ refl)

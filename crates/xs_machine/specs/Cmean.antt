@@ -7,7 +7,7 @@ use Rattle.xs_api.specs.declared.api.Operand.{Operand}
 use Rattle.xs_api.specs.declared.api.Operand.TheVariants.{Unset, Num}
 use Rattle.xs_ctree.specs.TypedTree.{Expr, Literal, Variable, ItemCount, Cast, Binary, Assign, Api, Usage, ToVariable, ToItem, Exprs, NoExprs, MoreExprs, Stmt, Block, Effect, Declare, If, Quit, Register, Stmts, NoStmts, MoreStmts}
 use Rattle.xs_machine.specs.Dispatch.{Prims}
-use Rattle.xs_machine.specs.MachineState.{State, Out, Done, Stop, ◌>>=◌, lift, read_var, write_var, assigned, assign_as, item_count, operate, convert, truth_of}
+use Rattle.xs_machine.specs.MachineState.{State, Out, Done, Stop, ◌>>=◌, lift, read_var, write_var, assigned, assign_as, item_count, operate, convert, truth_of, unbuilt}
 
 -- one of two runs, by a condition
 abbrev pub choose : {S A : Type 0} → Option Bool → State S → Out S A → Out S A → Out S A
@@ -34,6 +34,7 @@ module _ {S : Type 0} (P : Prims S) where
         >>= λ u σ2. lift (P.row StSet (v ∷ u ∷ []) σ2.frame σ2.store) σ2
     eval (Api at r es) σ = evals es σ >>= λ vs σ1. lift (P.row r vs σ1.frame σ1.store) σ1
     eval (Usage at text) σ = lift (P.croak_usage text σ.frame σ.store) σ
+    eval _ σ = unbuilt σ
 
     -- the values of operands, from left to right
     pub evals : Exprs → State S → Out S (List Operand)
@@ -49,7 +50,8 @@ module _ {S : Type 0} (P : Prims S) where
     exec (If at e a b) σ =
         eval e σ >>= λ v σ1. choose (truth_of v) σ1 (exec a σ1) (exec b σ1)
     exec (Quit at e) σ = dropped (eval e σ)
-    exec (Register name f) σ = dropped (lift (P.register name f σ.frame σ.store) σ)
+    exec (Register name f false) σ = dropped (lift (P.register name f σ.frame σ.store) σ)
+    exec _ σ = unbuilt σ
 
     -- statements in order
     pub exec_all : Stmts → State S → Out S (Unit {0})

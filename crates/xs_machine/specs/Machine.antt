@@ -17,7 +17,7 @@ use Rattle.xs_ctree.specs.Functions.{function_at, boot_at, name_of}
 use Rattle.xs_ctree.specs.TypedTree.{Expr, Literal, Variable, ItemCount, Cast, Binary, Assign, Api, Usage, Target, ToVariable, ToItem, Exprs, NoExprs, MoreExprs, Stmt, Block, Effect, Declare, If, Quit, Register, Stmts, NoStmts, MoreStmts, expr_count, Function, Code}
 use Rattle.xs_api.specs.World.{World, Swept, Clean, Dirty, depths_of, new_cells, registered, sweep}
 use Rattle.xs_machine.specs.Dispatch.{Prims}
-use Rattle.xs_machine.specs.MachineState.{State, Out, Done, Stop, tick, lift, with_store, read_var, write_var, assigned, assign_as, item_count, operate, convert, truth_of}
+use Rattle.xs_machine.specs.MachineState.{State, Out, Done, Stop, tick, lift, with_store, read_var, write_var, assigned, assign_as, item_count, operate, convert, truth_of, unbuilt}
 use Rattle.xs_api.specs.Limits.{most_items}
 use Rattle.xs_machine.specs.Dispatch.{counted_rows}
 use Rattle.xs_machine.specs.Cmean.{dropped, exec}
@@ -143,6 +143,7 @@ module _ {S : Type 0} (P : Prims S) where
   abbrev pub act_assign : Target → Expr → List Work → List Operand → State S → Mach S
   act_assign (ToVariable x t) e k vs σ = run_on (DoExpr e ∷ SetVar x t ∷ k) vs σ
   act_assign (ToItem i) e k vs σ = run_on (DoExpr e ∷ DoExpr i ∷ DoRow StSet 2 ∷ k) vs σ
+  act_assign _ e k vs σ = land ◌∷◌ k vs (unbuilt {A = Operand} σ)
 
   -- one expression
   abbrev pub act_expr : Expr → List Work → List Operand → State S → Mach S
@@ -155,6 +156,7 @@ module _ {S : Type 0} (P : Prims S) where
   act_expr (Api at r es) k vs σ = run_on (DoExprs es ∷ DoRow r (expr_count es) ∷ k) vs σ
   act_expr (Usage at text) k vs σ =
       land ◌∷◌ k vs (lift (P.croak_usage text σ.frame σ.store) σ)
+  act_expr _ k vs σ = land ◌∷◌ k vs (unbuilt {A = Operand} σ)
 
   -- one statement
   abbrev pub act_stmt : Stmt → List Work → List Operand → State S → Mach S
@@ -163,8 +165,9 @@ module _ {S : Type 0} (P : Prims S) where
   act_stmt (Declare at x) k vs σ = run_on k vs (write_var x Unset σ)
   act_stmt (If at e a b) k vs σ = run_on (DoExpr e ∷ Branch a b ∷ k) vs σ
   act_stmt (Quit at e) k vs σ = run_on (DoExpr e ∷ DropTop ∷ k) vs σ
-  act_stmt (Register name f) k vs σ =
+  act_stmt (Register name f false) k vs σ =
       land passed k vs (dropped (lift (P.register name f σ.frame σ.store) σ))
+  act_stmt _ k vs σ = land passed k vs (unbuilt {A = Unit {0}} σ)
 
   module _ (code : Code) where
     -- one piece of work
@@ -222,6 +225,7 @@ abbrev mutual
   expr_size (Assign at to e) = target_size to + expr_size e + 2
   expr_size (Api at r es) = exprs_size es + 2
   expr_size (Usage at text) = 1
+  expr_size _ = 1
 
   pub exprs_size : Exprs → ℕ
   exprs_size NoExprs = 1
@@ -230,6 +234,7 @@ abbrev mutual
   pub target_size : Target → ℕ
   target_size (ToVariable x t) = 0
   target_size (ToItem e) = expr_size e
+  target_size _ = 0
 
 abbrev mutual
   pub stmt_size : Stmt → ℕ
@@ -238,7 +243,7 @@ abbrev mutual
   stmt_size (Declare at x) = 1
   stmt_size (If at e a b) = expr_size e + (stmt_size a + stmt_size b) + 2
   stmt_size (Quit at e) = expr_size e + 2
-  stmt_size (Register name f) = 1
+  stmt_size _ = 1
 
   pub stmts_size : Stmts → ℕ
   stmts_size NoStmts = 1

@@ -58,8 +58,7 @@ assigned (type_of.Number k) Void = None
 assigned type_of.Scalar (Num n) = None
 assigned type_of.Scalar Unset = None
 assigned type_of.Scalar Void = None
-assigned type_of.Void v = None
-assigned type_of.Faulty v = None
+assigned _ v = None
 
 module _ {S : Type 0} where
   infixl 10 ◌>>=◌
@@ -67,6 +66,10 @@ module _ {S : Type 0} where
   abbrev pub ◌>>=◌ : {A B : Type 0} → Out S A → (A → State S → Out S B) → Out S B
   (Done a σ) >>= go = go a σ
   (Stop a σ) >>= go = Stop a σ
+
+  -- a form of code whose meaning is not built yet; no code of the types stage has it
+  abbrev pub unbuilt : {A : Type 0} → State S → Out S A
+  unbuilt σ = Stop (Traps trap.Kind) σ
 
   abbrev pub with_vars : List Operand → State S → State S
   with_vars vars σ = record σ { vars = vars }

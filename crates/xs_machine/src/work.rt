@@ -1,5 +1,5 @@
 //! One piece of pending work.
-ghost use Rattle.std.specs.Prelude.{◌≡◌, ◌∷◌, [], ℕ, IfOk, MatchOption, OnOk, Some, length, replicate, reverse, slice_index_or, slice_set, true};
+ghost use Rattle.std.specs.Prelude.{◌≡◌, ◌∷◌, [], ℕ, IfOk, MatchOption, OnOk, Some, false, length, replicate, reverse, slice_index_or, slice_set, true};
 ghost use Rattle.xs_ctree.specs.Arena.{expr_fits, expr_from, stmt_from, target_from};
 ghost use Rattle.xs_ctree.specs.Functions.{arena_of, expr_in, stmt_in};
 ghost use Rattle.xs_machine.specs.Machine as machine;
@@ -53,7 +53,21 @@ fn act_on_expr_node(m: &mut Machine, node: ExprNode) -> Result<(), Memory>
         ExprNode::Assign(_, to, e) => begin_assignment(m, to, e),
         ExprNode::Api(_, row, operands) => begin_row(m, row, operands),
         ExprNode::Usage(_, text) => act_on_usage(m, text),
+        _ => {
+            unbuilt(m);
+            Ok(())
+        }
     }
+}
+
+// A form of code whose meaning is not built yet.
+fn unbuilt(m: &mut Machine)
+    ensures acts { mach_of m.new
+        ≡ machine.unwind counted_rows (Abrupt.Traps Trap.Kind) (pending_of m.old)
+        (state_of m.old) }
+    ensures typed { m.new.typed ≡ m.old.typed }
+{
+    m.unwind(Abrupt::Traps(Trap::Kind));
 }
 
 // A row of Perl's API: its operands come first.
@@ -81,6 +95,10 @@ fn begin_assignment(m: &mut Machine, to: TargetNode, e: u32) -> Result<(), Memor
         TargetNode::Item(at) => {
             m.then(Task::DoRow(Row::StSet, 2))?;
             m.then_two(Task::DoExpr(e), Task::DoExpr(at))
+        }
+        TargetNode::Pointed(_, _) | TargetNode::Field(_, _, _, _) => {
+            unbuilt(m);
+            Ok(())
         }
     }
 }
@@ -118,7 +136,11 @@ fn act_on_stmt_node(m: &mut Machine, node: StmtNode) -> Result<(), Memory>
             Ok(())
         }
         StmtNode::If(_, e, a, b) => m.then_two(Task::DoExpr(e), Task::Branch(a, b)),
-        StmtNode::Register(name, function) => act_on_registration(m, name, function),
+        StmtNode::Register(name, function, false) => act_on_registration(m, name, function),
+        _ => {
+            unbuilt(m);
+            Ok(())
+        }
     }
 }
 
@@ -269,7 +291,7 @@ fn assigned(t: ValueType, v: Operand) -> Option<Operand>
             Operand::Scalar(s) => Some(Operand::Scalar(s)),
             Operand::Unset | Operand::Num(_) | Operand::Void => None,
         },
-        ValueType::Void | ValueType::Faulty => None,
+        _ => None,
     }
 }
 
@@ -394,8 +416,8 @@ fn act_on_registration(m: &mut Machine, name: u32, function: u32) -> Result<(), 
     requires { m.old.stopped ≡ Outcome.Returned [] }
     ensures acts { OnOk result (mach_of m.new
         ≡ machine.act_stmt counted_rows
-        (tree.Register (slice_index_or m.old.typed.texts.items name []) function) (pending_of m.old)
-        (operands_of m.old) (state_of m.old)) }
+        (tree.Register (slice_index_or m.old.typed.texts.items name []) function false)
+        (pending_of m.old) (operands_of m.old) (state_of m.old)) }
     ensures typed { m.new.typed ≡ m.old.typed }
 {
     match register(&mut m.perl, &m.typed, name, function, &m.frame) {

@@ -1,1 +1,2 @@
 pub mod TheTable
+pub mod CroakTexts

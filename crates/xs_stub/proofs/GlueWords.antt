@@ -9,15 +9,17 @@ use Rattle.std.specs.List.{AllByRecursion as All, flat_map, list_all}
 use Rattle.std.specs.Prelude.{None}
 use Rattle.xs_base.proofs.AllPass.{all-append, all-weaker}
 use Rattle.xs_base.proofs.DecimalText.{decimal_digits}
+use Rattle.xs_base.proofs.FrontRuns.{after_seam}
 use Rattle.xs_base.proofs.Qualified.{first_in_word, qualified_bytes}
+use Rattle.xs_base.specs.declared.byte_runs.ByteClass.TheVariants as class
 use Rattle.xs_base.specs.ByteRuns.{belongs}
 use Rattle.xs_base.specs.Names.{is_among, is_qualified_name}
 use Rattle.xs_base.specs.Readers.{head_is}
 use Rattle.xs_base.specs.Scanning.{begins_word, is_ascii_digit, is_identifier, is_word_byte}
 use Rattle.xs_base.specs.declared.byte_runs.ByteClass.TheVariants.{Name}
-use Rattle.xs_ctok.specs.Numerals.{after_digits, after_hexadecimal_prefix, has_point, is_digit_of, suffix_of, suffixed}
+use Rattle.xs_ctok.specs.Numerals.{after_hexadecimal_prefix, has_point, is_digit_of, is_octal, suffix_of, suffixed}
 use Rattle.xs_ctok.specs.TokenSpelling as sp
-use Rattle.xs_ctok.specs.TokenSpelling.{IsInteger, StandFor}
+use Rattle.xs_ctok.specs.TokenSpelling.{IsInteger, IsPrefix, StandFor}
 use Rattle.xs_ctok.specs.declared.token.TokKind.{TokKind}
 use Rattle.xs_ctok.specs.declared.token.TokKind.TheVariants as kind
 use Rattle.xs_ctok.specs.CWords.{is_dropped_statement, is_dropped_word, is_no_name, is_reserved}
@@ -33,7 +35,6 @@ use Rattle.xs_stub.proofs.LinePieces.{IsTok, is_read}
 use Rattle.xs_stub.proofs.WrittenLines.{is_line_byte}
 use Rattle.xs_stub.specs.Intended.{literal_of, no_suffix}
 use Rattle.xs_stub.specs.Stub.{joined_names, name_of, name_or_nothing, term_text}
-use Rattle.xs_values.specs.declared.literal.Base.{Base}
 use Rattle.xs_values.specs.declared.literal.Base.TheVariants as base
 
 -- ---- names
@@ -94,24 +95,23 @@ boot_named name h = boot_word (underscored name) (boot_bytes name h)
 -- No digit, point, exponent or suffix is in front, and no letter that makes a `0` hexadecimal.
 pub record EndsNumber (rest : List ℕ) : Type 0 where
   pub no_digit : head_is (is_digit_of base.Decimal) rest ≡ false
-  pub no_octal : head_is (is_digit_of base.Octal) rest ≡ false
+  pub no_octal : is_octal (48 ∷ rest) ≡ false
   pub no_point : has_point base.Decimal rest ≡ false
-  pub no_octal_point : has_point base.Octal rest ≡ false
   pub plain : suffix_of rest ≡ suffixed [] no_suffix
   pub no_prefix : after_hexadecimal_prefix (48 ∷ rest) ≡ None
 
 -- before `)`, `;` and a blank
 pub ends_close : (rest : List ℕ) → EndsNumber (41 ∷ rest)
 unfolding suffix_of
-ends_close rest = record { no_digit = refl; no_octal = refl; no_point = refl; no_octal_point = refl; plain = refl; no_prefix = refl }
+ends_close rest = record { no_digit = refl; no_octal = refl; no_point = refl; plain = refl; no_prefix = refl }
 
 pub ends_semicolon : (rest : List ℕ) → EndsNumber (59 ∷ rest)
 unfolding suffix_of
-ends_semicolon rest = record { no_digit = refl; no_octal = refl; no_point = refl; no_octal_point = refl; plain = refl; no_prefix = refl }
+ends_semicolon rest = record { no_digit = refl; no_octal = refl; no_point = refl; plain = refl; no_prefix = refl }
 
 pub ends_blank : (rest : List ℕ) → EndsNumber (32 ∷ rest)
 unfolding suffix_of
-ends_blank rest = record { no_digit = refl; no_octal = refl; no_point = refl; no_octal_point = refl; plain = refl; no_prefix = refl }
+ends_blank rest = record { no_digit = refl; no_octal = refl; no_point = refl; plain = refl; no_prefix = refl }
 
 digit_decimal : (b : ℕ) → is_ascii_digit b ≡ true → is_digit_of base.Decimal b ≡ true
 digit_decimal b h = grind (arith, nat_tests)
@@ -129,21 +129,19 @@ value_same n (d ∷ ds) h =
     let g = and_parts (is_ascii_digit d) (list_all is_ascii_digit ds) h in
     ap (λ k. fold (λ m c. 10 * m + digit_value c) (10 * n + k) ds) (digit_is d g.0) ∙ value_same (10 * n + (d - 48)) ds g.1
 
-after_seam : (b : Base) (run rest : List ℕ) → list_all (is_digit_of b) run ≡ true → head_is (is_digit_of b) rest ≡ false → after_digits b (run ++ rest) ≡ rest
-after_seam b [] [] all stop = refl
-after_seam b [] (c ∷ cs) all stop = rw stop refl
-after_seam b (c ∷ cs) rest all stop =
-    let h = and_parts (is_digit_of b c) (list_all (is_digit_of b) cs) all in
-    rw h.0 (after_seam b cs rest h.1 stop)
-
 not_zero_first : (ds rest : List ℕ) → 0 < length ds → 48 < get_or ds 0 0 → head_is (λ c. c == 48) (ds ++ rest) ≡ false
 not_zero_first [] rest some first = absurd (omega (arith, some))
 not_zero_first (d ∷ ds) rest some first = false_from_ne_true (d == 48) (λ e. omega (arith, first, eqb-true d 48 e))
 
--- digits that are not `0` alone
-decimal_number : (value : ℕ) (rest : List ℕ) → 0 < value → value < 2 ^ 64 → EndsNumber rest
-    → IsInteger (record { value = value; base = base.Decimal; suffix = no_suffix }) (decimal value) rest
-decimal_number value rest some fits ends =
+-- a number that does not begin with `0`
+plain_number : (text : List ℕ) → head_is (λ c. c == 48) text ≡ false → IsPrefix base.Decimal [] text
+plain_number [] h = sp.decimal refl refl
+plain_number (d ∷ []) h = sp.decimal (rw h refl) refl
+plain_number (d ∷ x ∷ rest) h = sp.decimal (rw h refl) (rw h refl)
+
+decimal_number : (value : ℕ) (rest : List ℕ) → value < 2 ^ 64 → IsPrefix base.Decimal [] (decimal value ++ rest) → EndsNumber rest
+    → IsInteger (literal_of value) (decimal value) rest
+decimal_number value rest fits prefix ends =
     let d = decimal_digits value fits in
     let all = all-weaker is_ascii_digit (is_digit_of base.Decimal) digit_decimal (decimal value) d.all in
     record {
@@ -151,39 +149,25 @@ decimal_number value rest some fits ends =
       digits = decimal value;
       written = [];
       spelled = sym (append-nil (decimal value));
-      prefix = sp.decimal (not_zero_first (decimal value) rest (decimal_nonempty value fits) (first_decimal value some fits));
+      prefix = prefix;
       are_digits = all;
       some = decimal_nonempty value fits;
       ends = ends.no_digit;
-      no_point = ap (has_point base.Decimal) (after_seam base.Decimal (decimal value) rest all ends.no_digit) ∙ ends.no_point;
+      no_point = ap (has_point base.Decimal) (after_seam class.Digit (decimal value) rest all ends.no_digit) ∙ ends.no_point;
       suffix = ends.plain;
       value = value_same 0 (decimal value) d.all ∙ d.value;
       fits = fits;
     }
 
-zero_number : (rest : List ℕ) → EndsNumber rest → IsInteger (record { value = 0; base = base.Octal; suffix = no_suffix }) (48 ∷ []) rest
-zero_number rest ends = record {
-  before = [];
-  digits = 48 ∷ [];
-  written = [];
-  spelled = refl;
-  prefix = sp.octal refl ends.no_prefix;
-  are_digits = refl;
-  some = omega arith;
-  ends = ends.no_octal;
-  no_point = ap (has_point base.Octal) (after_seam base.Decimal (48 ∷ []) rest refl ends.no_digit) ∙ ends.no_octal_point;
-  suffix = ends.plain;
-  value = refl;
-  fits = omega arith;
-}
-
-not_zero : (n : ℕ) → suc n == 0 ≡ false
-not_zero n = false_from_ne_true (suc n == 0) (λ e. omega (arith, eqb-true (suc n) 0 e))
-
 number_spelled : (value : ℕ) (rest : List ℕ) → value < 2 ^ 64 → EndsNumber rest → IsInteger (literal_of value) (decimal value) rest
 number_spelled zero rest fits ends =
-    subst (λ ds. IsInteger (record { value = 0; base = base.Octal; suffix = no_suffix }) ds rest) (sym (decimal_digit 0 (omega arith))) (zero_number rest ends)
-number_spelled (suc n) rest fits ends = rw (not_zero n) (decimal_number (suc n) rest (omega arith) fits ends)
+    decimal_number 0 rest fits
+    (subst (λ (ds : List ℕ). IsPrefix base.Decimal [] (ds ++ rest)) (sym (decimal_digit 0 (omega arith))) (sp.decimal ends.no_octal ends.no_prefix)) ends
+number_spelled (suc n) rest fits ends =
+    let some : 0 < suc n = omega arith in
+    decimal_number (suc n) rest fits
+    (plain_number (decimal (suc n) ++ rest)
+    (not_zero_first (decimal (suc n)) rest (decimal_nonempty (suc n) fits) (first_decimal (suc n) some fits))) ends
 
 -- A number is a token where nothing follows that goes on with it.
 pub number_tok : {fresh : Bool} {rest : List ℕ} (value : ℕ) → value ≤ 2147483647 → EndsNumber rest

@@ -39,12 +39,9 @@ use Rattle.xs_stub.specs.Stub.{glue_text, joined_names, name_or_nothing}
 abbrev pub no_suffix : Suffix
 no_suffix = record { unsigned = false; length = size.Int }
 
--- A number without a zero in front of other digits is decimal, and `0` is octal (C11 6.4.4.1).
-abbrev pub base_of : ℕ → Base
-base_of value = if value == 0 then base.Octal else base.Decimal
-
+-- a number that is written in decimal digits
 abbrev pub literal_of : ℕ → Literal
-literal_of value = record { value = value; base = base_of value; suffix = no_suffix }
+literal_of value = record { value = value; base = base.Decimal; suffix = no_suffix }
 
 abbrev pub number : ℕ → ℕ → ExprTree
 number line value = Num line (literal_of value)

@@ -37,24 +37,13 @@ pub fn variable(alloc: Global, line: u32, name: &[u8]) -> Result<Expr, Memory>
     Ok(Expr::Name(line, name))
 }
 
-// The base of a number that is written in decimal digits: `0` is octal.
-fn base_of(value: u64) -> Base
-    ensures { result ≡ spec.base_of value }
-{
-    if value == 0 {
-        Base::Octal
-    } else {
-        Base::Decimal
-    }
-}
-
 // A number as a literal, without a suffix.
 fn literal_of(value: u64) -> Literal
     ensures { result ≡ spec.literal_of value }
 {
     Literal {
         value,
-        base: base_of(value),
+        base: Base::Decimal,
         suffix: Suffix {
             unsigned: false,
             length: Length::Int,

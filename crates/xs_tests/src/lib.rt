@@ -9,6 +9,10 @@ mod module_cases;
 #[cfg(test)]
 mod nesting_tables;
 #[cfg(test)]
+mod param_cases;
+#[cfg(test)]
+mod param_tables;
+#[cfg(test)]
 mod script_cases;
 #[cfg(test)]
 mod section_cases;

@@ -24,12 +24,12 @@ pub const WORDS: [(&[u8], &[u8]); 14] = [
 /// Integers: bases, suffixes, the greatest value.
 #[rattlefmt::skip]
 pub const INTEGERS: [(&[u8], &[u8]); 8] = [
-    (b"0 7 10", b"1:1 i 0o\n1:3 i 7d\n1:5 i 10d\n"),
+    (b"0 7 10", b"1:1 i 0d\n1:3 i 7d\n1:5 i 10d\n"),
     (b"00 017 01777777777777777777777", b"1:1 i 0o\n1:4 i 15o\n1:8 i 18446744073709551615o\n"),
     (b"0x0 0XfF 0xABCDEFabcdef", b"1:1 i 0x\n1:5 i 255x\n1:10 i 188900977659375x\n"),
     (b"1u 2U 3l 4L 5ul 6UL 7ll 8LL 9ull 10ULL", b"1:1 i 1du\n1:4 i 2du\n1:7 i 3dl\n1:10 i 4dl\n1:13 i 5dul\n1:17 i 6dul\n1:21 i 7dll\n1:25 i 8dll\n1:29 i 9dull\n1:34 i 10dull\n"),
     (b"0x1u 0x2U 0x3l 0x4L 0x5ul 0x6UL 0x7ll 0x8LL 0x9ull 0xaULL", b"1:1 i 1xu\n1:6 i 2xu\n1:11 i 3xl\n1:16 i 4xl\n1:21 i 5xul\n1:27 i 6xul\n1:33 i 7xll\n1:39 i 8xll\n1:45 i 9xull\n1:52 i 10xull\n"),
-    (b"01u 02l 03ULL 0u 0L", b"1:1 i 1ou\n1:5 i 2ol\n1:9 i 3oull\n1:15 i 0ou\n1:18 i 0ol\n"),
+    (b"01u 02l 03ULL 0u 0L", b"1:1 i 1ou\n1:5 i 2ol\n1:9 i 3oull\n1:15 i 0du\n1:18 i 0dl\n"),
     (b"18446744073709551615 0xffffffffffffffff", b"1:1 i 18446744073709551615d\n1:22 i 18446744073709551615x\n"),
     (b"18446744073709551615ull", b"1:1 i 18446744073709551615dull\n"),
 ];
@@ -38,9 +38,9 @@ pub const INTEGERS: [(&[u8], &[u8]); 8] = [
 #[rattlefmt::skip]
 pub const INTEGERS_AND_WORDS: [(&[u8], &[u8]); 15] = [
     (b"09", b"1:1 i 0o\n1:2 i 9d\n"),
-    (b"0x", b"1:1 i 0o\n1:2 w x\n"),
-    (b"0xg", b"1:1 i 0o\n1:2 w xg\n"),
-    (b"0x;", b"1:1 i 0o\n1:2 w x\n1:3 p ;\n"),
+    (b"0x", b"1:1 i 0d\n1:2 w x\n"),
+    (b"0xg", b"1:1 i 0d\n1:2 w xg\n"),
+    (b"0x;", b"1:1 i 0d\n1:2 w x\n1:3 p ;\n"),
     (b"1lu", b"1:1 i 1dl\n1:3 w u\n"),
     (b"1uL", b"1:1 i 1du\n1:3 w L\n"),
     (b"1lL", b"1:1 i 1dl\n1:3 w L\n"),
@@ -48,8 +48,8 @@ pub const INTEGERS_AND_WORDS: [(&[u8], &[u8]); 15] = [
     (b"1Ul", b"1:1 i 1du\n1:3 w l\n"),
     (b"1ulll", b"1:1 i 1dull\n1:5 w l\n"),
     (b"1a", b"1:1 i 1d\n1:2 w a\n"),
-    (b"0b1", b"1:1 i 0o\n1:2 w b1\n"),
-    (b"0u8", b"1:1 i 0ou\n1:3 i 8d\n"),
+    (b"0b1", b"1:1 i 0d\n1:2 w b1\n"),
+    (b"0u8", b"1:1 i 0du\n1:3 i 8d\n"),
     (b"08u", b"1:1 i 0o\n1:2 i 8du\n"),
     (b"019", b"1:1 i 1o\n1:3 i 9d\n"),
 ];

@@ -1,4 +1,4 @@
-use Rattle.std.proofs.Common.{◌≡◌, ◌∙◌, ◌+◌, ◌<◌, sym, subst, length, map, drop, arith}
+use Rattle.std.proofs.Common.{◌∙◌, ◌+◌, ◌<◌, sym, subst, length, map, drop, arith}
 use Rattle.xs_cexpr.specs.ExpressionTree.{Set, Two, exprs_of}
 use Rattle.xs_cexpr.specs.ExpressionViews.{expr_tree, place_tree}
 use Rattle.xs_ccheck.specs.ExprTyping.{expr, exprs}

@@ -4,9 +4,9 @@ use Rattle.xs_ctree.proofs.typed.Typed.add_expr.Goals as goal
 
 pub invariant_of-self-clause-fits : goal.invariant_of-self-clause-fits
 invariant_of-self-clause-fits c =
-    rw c.push.ensures.items (expr_fits_more _ _ _ _ _ _ c.args.self.now.fits _ c.args.node c.requires)
+    rw c.push.ensures.items (expr_fits_more _ _ _ _ _ _ _ _ c.args.self.now.fits _ c.args.node c.requires)
 
 pub returns : goal.returns
 returns c =
-    added_expr c.args.self.now _ refl c.args.node c.in_ok-index.index
-    (omega (arith, c.in_ok-index.ensures, c.len.ensures, c.args.self.now.exprs.ok.0)) c.requires c.in_ok-push.ensures.items refl refl refl refl
+    added_expr c.args.self.now _ refl refl c.args.node c.in_ok-index.index
+    (omega (arith, c.in_ok-index.ensures, c.len.ensures, c.args.self.now.exprs.ok.0)) c.requires c.in_ok-push.ensures.items refl refl refl refl refl refl

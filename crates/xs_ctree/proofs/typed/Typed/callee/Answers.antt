@@ -1,4 +1,4 @@
-use Rattle.std.proofs.Common.{Some, ap, sym, ◌∙◌, refl, arith}
+use Rattle.std.proofs.Common.{Some, ap, ◌∙◌, refl, arith}
 use Rattle.xs_ctree.specs.Arena.{function_of}
 use Rattle.xs_ctree.specs.Functions.{arena_of, code_of, function_at}
 use Rattle.xs_ctree.proofs.Callees.{callee_is}

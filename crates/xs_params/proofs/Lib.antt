@@ -1,0 +1,9 @@
+pub mod Innermost
+pub mod TokenFacts
+pub mod ListSteps
+pub mod ListComplete
+pub mod FrontsRun
+pub mod ListRuns
+pub mod ParamsTold
+pub mod RestsClear
+pub mod TextsStand
