@@ -16,11 +16,11 @@ use Rattle.std.specs.List.{AllByRecursion as All}
 use Rattle.xs_iface.specs.SumForm.{Differ, IsSumModule, IsSumXsub}
 use Rattle.xs_iface.specs.ReservedWords.{is_free}
 use Rattle.xs_ccheck.proofs.Unlined.{stmts_bare, types_without_lines}
-use Rattle.xs_ccheck.specs.Checked.{Good}
-use Rattle.xs_ccheck.specs.FileTyping.{code_meant, function, functions, is_boot_name, item, item_name, outermost, sort_of, typed_of}
-use Rattle.xs_ccheck.specs.Scopes.{Local, Scope, beginning, declared_in, outside, variable_of}
-use Rattle.xs_ccheck.specs.StmtTyping.{FileNames, index_of}
-use Rattle.xs_ccheck.specs.declared.names.Where.{Where}
+use Rattle.xs_ctypes.specs.Checked.{Good}
+use Rattle.xs_ccheck.specs.FileTyping.{code_meant, function, functions, item, outermost, sort_of, typed_of}
+use Rattle.xs_ctypes.specs.FileNames.{FileNames, index_of, is_boot_name, item_name}
+use Rattle.xs_ctypes.specs.Scopes.{Local, Scope, beginning, declared_in, outside, variable_of}
+use Rattle.xs_ccheck.specs.declared.enclosing.Where.{Where}
 use Rattle.xs_ctree.specs.TypedTree as code
 use Rattle.xs_ctree.specs.TypedTree.{Code, Function, Stmt, bare, bare_function, bare_slot, bare_stmt}
 use Rattle.xs_perlapi.specs.declared.row.Row.TheVariants.{Entry}

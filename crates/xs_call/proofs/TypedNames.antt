@@ -13,8 +13,8 @@ use Rattle.xs_iface.specs.ReservedWords.{glue_words, is_free, is_no_xsub_name}
 use Rattle.xs_ctree.specs.declared.value_type.Slot.{Slot}
 use Rattle.xs_ctree.specs.declared.value_type.ValueType.TheVariants.{Number, Scalar}
 use Rattle.xs_ctok.specs.CWords.{is_dropped_statement, is_dropped_word, is_no_name, is_reserved}
-use Rattle.xs_ccheck.specs.Scopes.{Local, variable_of}
-use Rattle.xs_ccheck.specs.StmtTyping.{index_from}
+use Rattle.xs_ctypes.specs.Scopes.{Local, variable_of}
+use Rattle.xs_ctypes.specs.FileNames.{index_from}
 use Rattle.xs_stub.specs.Stub.{name_or_nothing}
 use Rattle.xs_values.specs.declared.kind.Kind.TheVariants.{I32}
 

@@ -23,12 +23,13 @@ use Rattle.xs_ctree.specs.declared.value_type.ValueType.TheVariants.{Number, Sca
 use Rattle.xs_ctree.specs.TypedTree as code
 use Rattle.xs_ctree.specs.TypedTree.{Expr, Variable, ItemCount, Assign, Binary, Cast, Api, Usage, ToVariable, ToItem, Stmt, Effect, Quit, Register, nothing, bare_expr, bare_slot, bare_stmt}
 use Rattle.xs_perlapi.specs.declared.row.Row.TheVariants.{StRead, SvIv, SvNewMortal, SvSetIv, XsReturn, XsReturnYes}
-use Rattle.xs_ccheck.specs.declared.names.Where.{Where}
-use Rattle.xs_ccheck.specs.Checked.{Good, more}
+use Rattle.xs_ccheck.specs.declared.enclosing.Where.{Where}
+use Rattle.xs_ctypes.specs.Checked.{Good, more}
 use Rattle.xs_ccheck.specs.ExprTyping.{TypedExpr, as_typed, expr, exprs, literal}
-use Rattle.xs_ccheck.specs.Scopes.{Local, Scope, declared_in, is_in_use, knowing, new_variable, next_slot, outside, scope_behind, scopes_behind, variable_of}
-use Rattle.xs_ccheck.specs.StmtTyping.{FileNames, effect, index_from, index_of, stmt, stmts}
-use Rattle.xs_ccheck.specs.TypeNames.{type_named}
+use Rattle.xs_ctypes.specs.Scopes.{Local, Scope, declared_in, is_in_use, knowing, new_variable, next_slot, outside, scope_behind, scopes_behind, variable_of}
+use Rattle.xs_ccheck.specs.StmtTyping.{effect, stmt, stmts}
+use Rattle.xs_ctypes.specs.FileNames.{FileNames, index_from, index_of}
+use Rattle.xs_ctypes.specs.TypeNames.{type_named}
 use Rattle.xs_values.specs.Types.{number_types}
 use Rattle.xs_ccheck.proofs.Unlined.{effect_bare, stmts_bare}
 use Rattle.xs_perlapi.specs.Table.{is_interface_word}

@@ -1,6 +1,6 @@
 -- The code of a file has the types that the rules of its forms give.
 use Rattle.std.proofs.Common.{◌≡◌, ℕ, Bool, true, false, cond, List, [], ◌∷◌, map, length, codes, Option, None, Some, Ok, slice_get, refl, subst, arith}
-use Rattle.std.specs.Prelude.{◌||◌, nat_eq, unwrap_or}
+use Rattle.std.specs.Prelude.{◌&&◌, ◌||◌, nat_eq, unwrap_or}
 use Rattle.std.specs.Option.{option_map}
 use Rattle.std.specs.Str.{bytes_eq}
 use Rattle.std.proofs.lemmas.Bool.{and_parts}
@@ -8,6 +8,9 @@ use Rattle.std.proofs.lemmas.Bool.Decides.{nat_tests}
 use Rattle.xs_base.specs.declared.fault_codes.TheConstants.{DECLARED_TWICE, TYPES_DIFFER, WORD_NOT_ALLOWED, WRONG_NUMBER_OF_ARGUMENTS}
 use Rattle.xs_values.specs.declared.kind.Kind.TheVariants.{I32}
 use Rattle.xs_values.specs.declared.operator.Op.{Op}
+use Rattle.xs_values.specs.declared.unary_operator.UnOp.{UnOp}
+use Rattle.xs_values.specs.declared.unary_operator.UnOp.TheVariants as unary
+use Rattle.xs_cinput.specs.declared.tree.BinaryOp.{BinaryOp}
 use Rattle.xs_cinput.specs.declared.tree.BinaryOp.TheVariants as c
 use Rattle.xs_cexpr.specs.ExpressionTree as syntax
 use Rattle.xs_cexpr.specs.ExpressionTree.{ExprTree, ExprTrees, PlaceTree, VarPlace, StPlace}
@@ -25,19 +28,20 @@ use Rattle.xs_ctree.specs.declared.value_type.ValueType.{ValueType}
 use Rattle.xs_ctree.specs.declared.value_type.ValueType.TheVariants as type_of
 use Rattle.xs_ctree.specs.TypedTree as tree
 use Rattle.xs_ctree.specs.TypedTree.{Code, Expr, Function, Stmt, exprs_of, nothing, stmts_of}
-use Rattle.xs_ccheck.specs.declared.names.Where.{Where}
-use Rattle.xs_ccheck.specs.Checked.{Checked, Good, Fine, Wrong}
+use Rattle.xs_ccheck.specs.declared.enclosing.Where.{Where}
+use Rattle.xs_ctypes.specs.Checked.{Checked, Good, Fine, Judged, Wrong}
 use Rattle.xs_ccheck.specs.CodeTypes as typing
 use Rattle.xs_ccheck.specs.CodeTypes.{HasType, AreOperands, IsTarget, IsTest, IsEach, IsTyped, AreTyped, AreGroups, result_of}
-use Rattle.xs_ccheck.specs.ExprTyping.{TypedExpr, TypedTarget, all_fit, as_typed, called, cast, expr, exprs, is_cv, name_meant, option_expr, place_in, row_called, text_in, typed, usage, usage_of, usage_word, variable_place}
-use Rattle.xs_ccheck.specs.FileTyping.{entry_of, is_boot_name, sort_of, typed_of, where_in, with_entry}
-use Rattle.xs_ccheck.specs.Scopes.{Local, Scope, beginning, declared_in, declarators_behind, first_behind, groups_behind, is_in_use, name_behind, new_variable, next_slot, scope_behind, scopes_behind, variable_of, with_variable}
-use Rattle.xs_ccheck.specs.StmtTyping.{FileNames, TypedGroup, begun, conditional, declaration, declarator, declarators, declared, first_part, for_loop, function_end, groups, groups_of, in_group, in_order, in_turn, index_of, is_given, is_test, labels, may_return, perl, perl_word, quits, registered, stated, stmt, stmts, switched, test_of, unset}
-use Rattle.xs_ccheck.specs.TypeNames.{type_named}
-use Rattle.xs_ccheck.specs.ValueTypes.{casts, goes_into, is_condition, is_number, is_operand, of_two}
+use Rattle.xs_ccheck.specs.ExprTyping.{TypedExpr, TypedTarget, all_fit, as_typed, calculated, called, cast, combined, compared, expr, exprs, is_cv, is_equal, name_meant, option_expr, place_in, prefixed, row_called, text_in, truth, typed, usage, usage_of, usage_word, variable_place}
+use Rattle.xs_ccheck.specs.FileTyping.{entry_of, sort_of, typed_of, where_in, with_entry}
+use Rattle.xs_ctypes.specs.FileNames.{FileNames, index_of, is_boot_name}
+use Rattle.xs_ctypes.specs.Scopes.{Local, Scope, beginning, declared_in, declarators_behind, first_behind, groups_behind, is_in_use, name_behind, new_variable, next_slot, scope_behind, scopes_behind, variable_of, with_variable}
+use Rattle.xs_ccheck.specs.StmtTyping.{TypedGroup, begun, conditional, declaration, declarator, declarators, declared, first_part, for_loop, function_end, groups, groups_of, in_group, in_order, in_turn, is_given, is_test, labels, may_return, perl, perl_word, quits, registered, stated, stmt, stmts, switched, test_of, unset}
+use Rattle.xs_ctypes.specs.TypeNames.{type_named}
+use Rattle.xs_ctypes.specs.ValueTypes.{are_conditions, are_numbers, casts, compares, goes_into, is_condition, is_equality, is_number, is_operand, of_choice, of_numbers, of_promoted}
 use Rattle.xs_ccheck.proofs.GoodFunctions.{OfItem, each_function, function_of, statements_of}
-use Rattle.xs_ccheck.proofs.ScopesGrow.{Grown, Held, first_grown, groups_grown, name_grown, names_grown, scope_grown, scopes_grown, slot_last}
-use Rattle.xs_ccheck.proofs.WhereGood.{WhereFine, WhereGood, anything, behind_good, both_good, fine_by, judged_good, two_wrongs}
+use Rattle.xs_ctypes.proofs.ScopesGrow.{Grown, Held, first_grown, groups_grown, name_grown, names_grown, scope_grown, scopes_grown, slot_last}
+use Rattle.xs_ccheck.proofs.WhereGood.{WhereFine, WhereGood, anything, behind_good, both_good, either_fine, fine_by, judged_good, three_good, two_wrongs}
 
 module _ (slots : List Slot) where
   abbrev IsExpr : TypedExpr → Type 0
@@ -66,9 +70,36 @@ module _ (slots : List Slot) where
   variable_typed name (Some z) h = typing.to_variable (h z refl)
 
   two_typed : (op : Op) (a b : Expr) (s t : ValueType) → HasType slots a s → HasType slots b t
-      → WhereFine IsExpr (typed (λ u. tree.Binary op a b) (of_two op s t))
+      → WhereFine IsExpr (typed (λ u. tree.Binary op a b) (of_numbers op s t))
   two_typed op a b (type_of.Number j) (type_of.Number k) h g = typing.operator h g
   two_typed op a b _ _ h g = tt
+
+  promoted_typed : (op : UnOp) (e : Expr) (t : ValueType) → HasType slots e t → WhereFine IsExpr (typed (λ u. tree.Unary op e) (of_promoted op t))
+  promoted_typed op e (type_of.Number k) h = typing.promotion h
+  promoted_typed op e _ h = tt
+
+  truth_typed : (e : Expr) (b : Bool) → (b ≡ true → HasType slots e (type_of.Number I32)) → WhereFine IsExpr (truth b e)
+  truth_typed e true h = h refl
+  truth_typed e false h = tt
+
+  prefixed_typed : (op : UnOp) (x : TypedExpr) → IsExpr x → WhereFine IsExpr (prefixed op x)
+  prefixed_typed unary.Not x h = truth_typed (tree.Not x.tree) (is_condition x.of_type) (λ e. typing.negation h e)
+  prefixed_typed unary.Plus x h = promoted_typed unary.Plus x.tree x.of_type h
+  prefixed_typed unary.Minus x h = promoted_typed unary.Minus x.tree x.of_type h
+  prefixed_typed unary.Complement x h = promoted_typed unary.Complement x.tree x.of_type h
+
+  combined_typed : (op : BinaryOp) (x y : TypedExpr) → IsExpr x → IsExpr y → WhereFine IsExpr (combined op x y)
+  combined_typed (c.On op) x y h g =
+      either_fine IsExpr (are_numbers x.of_type y.of_type) (calculated op x y) (compared op x y) (two_typed op x.tree y.tree x.of_type y.of_type h g)
+      (truth_typed (tree.Same (is_equal op) x.tree y.tree) (compares x.of_type y.of_type && is_equality op)
+      (λ e. typing.comparison h g (and_parts (compares x.of_type y.of_type) (is_equality op) e).0))
+  combined_typed c.Or x y h g = truth_typed (tree.Or x.tree y.tree) (are_conditions x.of_type y.of_type) (λ e. typing.disjunction h g e)
+  combined_typed c.And x y h g = truth_typed (tree.And x.tree y.tree) (are_conditions x.of_type y.of_type) (λ e. typing.conjunction h g e)
+
+  chosen_typed : (line : ℕ) (t x y : TypedExpr) (j : Judged ValueType) → of_choice t.of_type x.of_type y.of_type ≡ j → IsExpr t → IsExpr x → IsExpr y
+      → WhereFine IsExpr (typed (λ u. tree.Choice line u t.tree x.tree y.tree) j)
+  chosen_typed line t x y (Fine u) e h g i = typing.chosen h g i e
+  chosen_typed line t x y (Wrong code word) e h g i = tt
 
   cast_by : (x : TypedExpr) (t : ValueType) (b : Bool) → casts x.of_type t ≡ b → IsExpr x
       → WhereFine IsExpr (typed (λ u. tree.Cast u x.tree) (cond b (Fine t) (Wrong TYPES_DIFFER [])))
@@ -136,7 +167,10 @@ module _ (slots : List Slot) where
       expr_typed : (e : ExprTree) → WhereGood IsExpr (expr vs e)
       expr_typed (syntax.Var line name) = judged_good IsExpr line _ (name_typed name (variable_of vs name) (held name))
       expr_typed (syntax.Num line value) = record { good = typing.number }
+      expr_typed (syntax.Chr line byte) = record { good = typing.number }
       expr_typed (syntax.Str line text) = record { good = tt }
+      expr_typed (syntax.Paren line a) = behind_good IsExpr IsExpr (expr vs a) _ (expr_typed a) (λ x h. record { good = typing.parentheses h })
+      expr_typed (syntax.One line op a) = behind_good IsExpr IsExpr (expr vs a) _ (expr_typed a) (λ x h. judged_good IsExpr line _ (prefixed_typed op x h))
       expr_typed (syntax.Call line name args) =
           by_word (bytes_eq name usage_word) _ _ (judged_good IsExpr line _ (usage_typed line args))
           (behind_good AreExprs IsExpr (exprs vs args) _ (exprs_typed args)
@@ -144,9 +178,12 @@ module _ (slots : List Slot) where
       expr_typed (syntax.Set line place None value) =
           both_good IsPlace IsExpr IsExpr (place_in vs place) (expr vs value) _ (place_typed place) (expr_typed value)
           (λ to x h g. judged_good IsExpr line _ (assigned_typed line to x (goes_into x.of_type to.of_type) refl h g))
-      expr_typed (syntax.Two line (c.On op) a b) =
+      expr_typed (syntax.Two line op a b) =
           both_good IsExpr IsExpr IsExpr (expr vs a) (expr vs b) _ (expr_typed a) (expr_typed b)
-          (λ x y h g. judged_good IsExpr line _ (two_typed op x.tree y.tree x.of_type y.of_type h g))
+          (λ x y h g. judged_good IsExpr line _ (combined_typed op x y h g))
+      expr_typed (syntax.Choice line test a b) =
+          three_good IsExpr IsExpr IsExpr IsExpr (expr vs test) (expr vs a) (expr vs b) _ (expr_typed test) (expr_typed a) (expr_typed b)
+          (λ t x y h g i. judged_good IsExpr line _ (chosen_typed line t x y (of_choice t.of_type x.of_type y.of_type) refl h g i))
       expr_typed (syntax.Cast line to a) =
           behind_good IsExpr IsExpr (expr vs a) _ (expr_typed a) (λ x h. judged_good IsExpr line _ (cast_typed (type_named to.name to.stars) x h))
       -- not built yet

@@ -9,8 +9,8 @@ use Rattle.xs_base.specs.declared.fault.Refuse.TheVariants as refuse
 use Rattle.xs_ctree.specs.declared.typed.Typed.{Typed}
 use Rattle.xs_ctree.specs.Growth.{Keeps}
 use Rattle.xs_ctree.proofs.Additions.{keeps_on}
-use Rattle.xs_ccheck.specs.Checked.{Checked, Good, Bad, both, is_before, lesser, more}
-use Rattle.xs_ccheck.specs.Joining.{TakesUp, joined, settled}
+use Rattle.xs_ctypes.specs.Checked.{Checked, Good, Bad, both, is_before, lesser, more}
+use Rattle.xs_ctypes.specs.Joining.{TakesUp, joined, settled}
 use Rattle.xs_ccheck.specs.Resolving.{Refuses, Resolves}
 
 -- ---- what a call says of what it checks, the nodes aside

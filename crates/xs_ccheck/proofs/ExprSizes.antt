@@ -2,13 +2,16 @@
 use Rattle.std.proofs.Common.{◌≡◌, ℕ, zero, suc, ◌+◌, ◌<◌, List, [], ◌∷◌, length, map, ap, arith, get_or}
 use Rattle.xs_cexpr.specs.declared.tree.Expr.{Expr}
 use Rattle.xs_cexpr.specs.ExpressionViews.{expr_tree}
-use Rattle.xs_cexpr.specs.ExpressionTree.{exprs_of, ExprTree, Call, Set, Two, Cast, ExprTrees, NoExprs, MoreExprs, PlaceTree, StPlace}
+use Rattle.xs_cexpr.specs.ExpressionTree.{exprs_of, ExprTree, Call, Paren, One, Set, Two, Choice, Cast, ExprTrees, NoExprs, MoreExprs, PlaceTree, StPlace}
 
 abbrev mutual
   pub expr_size : ExprTree → ℕ
   expr_size (Call line name args) = exprs_size args + 2
   expr_size (Set line place op value) = place_size place + expr_size value + 2
+  expr_size (Paren line a) = expr_size a + 1
+  expr_size (One line op a) = expr_size a + 1
   expr_size (Two line op a b) = expr_size a + expr_size b + 2
+  expr_size (Choice line test a b) = expr_size test + (expr_size a + expr_size b) + 2
   expr_size (Cast line to a) = expr_size a + 1
   expr_size _ = 1
 

@@ -3,7 +3,7 @@ use Rattle.std.proofs.Common.{◌≡◌, ◌<◌, ◌⊎◌, inl, inr, ℕ, Bool
 use Rattle.std.specs.Prelude.{◌&&◌, ◌||◌, not, nat_eq, nat_lt}
 use Rattle.std.proofs.lemmas.Bool.Decides.{nat_tests}
 use Rattle.xs_base.specs.declared.fault.Fault.{Fault}
-use Rattle.xs_ccheck.specs.Checked.{is_before}
+use Rattle.xs_ctypes.specs.Checked.{is_before}
 use Rattle.xs_ccheck.specs.FaultSet.{IsEarlier, IsLeftOf, StandsBefore}
 
 -- ---- lines

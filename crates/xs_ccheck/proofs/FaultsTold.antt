@@ -4,7 +4,7 @@ use Rattle.std.proofs.lemmas.Option.{same_Some}
 use Rattle.xs_base.specs.declared.fault.Fault.{Fault}
 use Rattle.xs_csyn.specs.FileTree.{FileTree}
 use Rattle.xs_ctree.specs.TypedTree.{Code}
-use Rattle.xs_ccheck.specs.Checked.{Checked, Good, Bad, answer}
+use Rattle.xs_ctypes.specs.Checked.{Checked, Good, Bad, answer}
 use Rattle.xs_ccheck.specs.FaultSet.{Node, AFile, parts, IsSound, IsFault, here, within, IsEarlier, IsLeftOf, StandsBefore, IsLeast, HasNoFault, AreOrdered}
 use Rattle.xs_ccheck.specs.FileTyping.{code_meant, typed_of}
 use Rattle.xs_ccheck.proofs.FaultOrder.{before_not}

@@ -5,6 +5,10 @@ use Rattle.std.specs.Option.{is_some, option_map}
 use Rattle.std.specs.Str.{bytes_eq}
 use Rattle.std.proofs.lemmas.List.{length-map}
 use Rattle.xs_base.specs.declared.fault_codes.TheConstants.{TYPES_DIFFER, WRONG_NUMBER_OF_ARGUMENTS}
+use Rattle.xs_values.specs.declared.operator.Op.{Op}
+use Rattle.xs_values.specs.declared.unary_operator.UnOp.{UnOp}
+use Rattle.xs_values.specs.declared.unary_operator.UnOp.TheVariants as unary
+use Rattle.xs_cinput.specs.declared.tree.BinaryOp.{BinaryOp}
 use Rattle.xs_cinput.specs.declared.tree.BinaryOp.TheVariants as c
 use Rattle.xs_cexpr.specs.ExpressionTree as syntax
 use Rattle.xs_cexpr.specs.ExpressionTree.{ExprTree, ExprTrees, PlaceTree, VarPlace, StPlace}
@@ -20,15 +24,16 @@ use Rattle.xs_ctree.specs.declared.value_type.Slot.{Slot}
 use Rattle.xs_ctree.specs.declared.value_type.ValueType.{ValueType}
 use Rattle.xs_ctree.specs.declared.value_type.ValueType.TheVariants as type_of
 use Rattle.xs_ctree.specs.TypedTree.{Expr, Stmt, Return, Give}
-use Rattle.xs_ccheck.specs.declared.names.Where.{Where}
-use Rattle.xs_ccheck.specs.Checked.{Checked, Good, Bad, behind, Judged, Fine, Wrong, judged, unbuilt}
-use Rattle.xs_ccheck.specs.ExprTyping.{TypedExpr, TypedTarget, all_fit, assigned, called, cast, expr, exprs, is_cv, item_place, name_meant, operated, option_expr, place_in, row_called, row_judged, text_in, typed, usage, usage_of, usage_word, variable_place}
-use Rattle.xs_ccheck.specs.FileTyping.{behind_entry, code_meant, defines, entry_of, function, functions, is_earlier, item, names_of, where_in}
-use Rattle.xs_ccheck.specs.FormTypes.{call_type, expr_rule, expr_type, expr_types, fit, item_type, name_type, place_rule, set_type, type_by, usage_type, variable_type}
-use Rattle.xs_ccheck.specs.Scopes.{Local, Scope, beginning, first_behind, name_behind, scope_behind, scopes_behind, variable_of}
-use Rattle.xs_ccheck.specs.StmtTyping.{FileNames, TypedGroup, begun, conditional, declarator, declarators, declared, first_part, function_end, groups, in_group, in_turn, index_of, is_test, label_number, labels, line_of_label, may_return, stated, stmt, stmts, switched, unset}
-use Rattle.xs_ccheck.specs.TypeNames.{type_named}
-use Rattle.xs_ccheck.specs.ValueTypes.{is_condition, is_number, is_operand, of_cast, of_two, result_type}
+use Rattle.xs_ccheck.specs.declared.enclosing.Where.{Where}
+use Rattle.xs_ctypes.specs.Checked.{Checked, Good, Bad, behind, Judged, Fine, Wrong, judged, unbuilt}
+use Rattle.xs_ccheck.specs.ExprTyping.{TypedExpr, TypedTarget, all_fit, assigned, calculated, called, cast, chosen, combined, compared, expr, exprs, is_cv, is_equal, item_place, name_meant, operated, option_expr, passed, place_in, prefixed, row_called, row_judged, text_in, typed, usage, usage_of, usage_word, variable_place}
+use Rattle.xs_ccheck.specs.FileTyping.{behind_entry, code_meant, defines, entry_of, function, functions, item, where_in}
+use Rattle.xs_ctypes.specs.FileNames.{FileNames, index_of, is_earlier, names_of}
+use Rattle.xs_ccheck.specs.FormTypes.{call_type, combined_type, expr_rule, expr_type, expr_types, fit, item_type, name_type, place_rule, set_type, type_by, usage_type, variable_type}
+use Rattle.xs_ctypes.specs.Scopes.{Local, Scope, beginning, first_behind, name_behind, scope_behind, scopes_behind, variable_of}
+use Rattle.xs_ccheck.specs.StmtTyping.{TypedGroup, begun, conditional, declarator, declarators, declared, first_part, function_end, groups, in_group, in_turn, is_test, label_number, labels, line_of_label, may_return, stated, stmt, stmts, switched, unset}
+use Rattle.xs_ctypes.specs.TypeNames.{type_named}
+use Rattle.xs_ctypes.specs.ValueTypes.{are_conditions, are_numbers, compares, is_condition, is_equality, is_number, is_operand, of_cast, of_choice, of_numbers, of_one, of_promoted, of_truth, of_two, result_type}
 use Rattle.xs_ccheck.specs.FaultSet.{Node, AFile, TheDefines, TheItems, ADefine, AnItem, AStmt, TheStmts, ADeclarator, AFirst, TheGroups, AGroup, TheLabels, ALabel, AnOption, AnExpr, APlace, parts, own, refused, refused_unless, no_condition, exprs_at, value_at, stmts_at, declarators_at, labels_at, groups_at, defines_at, items_at}
 use Rattle.xs_ccheck.proofs.LeastFaults.{OwnSays, Says, SaysAll, says_leaf, says_more, says_four, says_node, says_none, says_one, says_three, says_two}
 
@@ -88,6 +93,23 @@ type_of_branch false j k = refl
 place_of_branch : (b : Bool) (j k : Judged TypedTarget) → place_type_in (cond b j k) ≡ cond b (place_type_in j) (place_type_in k)
 place_of_branch true j k = refl
 place_of_branch false j k = refl
+
+prefixed_types : (op : UnOp) (x : TypedExpr) → type_in (prefixed op x) ≡ of_one op x.of_type
+prefixed_types unary.Not x = type_of_test (is_condition x.of_type) _ _ _
+prefixed_types unary.Plus x = typed_types _ (of_promoted unary.Plus x.of_type)
+prefixed_types unary.Minus x = typed_types _ (of_promoted unary.Minus x.of_type)
+prefixed_types unary.Complement x = typed_types _ (of_promoted unary.Complement x.of_type)
+
+operated_types : (op : Op) (x y : TypedExpr) → type_in (operated op x y) ≡ of_two op x.of_type y.of_type
+operated_types op x y =
+    type_of_branch (are_numbers x.of_type y.of_type) (calculated op x y) (compared op x y)
+    ∙ ap₂ (cond (are_numbers x.of_type y.of_type)) (typed_types _ (of_numbers op x.of_type y.of_type))
+    (type_of_test (compares x.of_type y.of_type && is_equality op) _ _ _)
+
+combined_types : (op : BinaryOp) (x y : TypedExpr) → type_in (combined op x y) ≡ combined_type op x.of_type y.of_type
+combined_types (c.On op) x y = operated_types op x y
+combined_types c.Or x y = type_of_test (are_conditions x.of_type y.of_type) _ _ _
+combined_types c.And x y = type_of_test (are_conditions x.of_type y.of_type) _ _ _
 
 name_types : (name : List ℕ) (o : Option Slot) → type_in (name_meant name o) ≡ name_type name o
 name_types name (Some v) = refl
@@ -153,14 +175,22 @@ module _ (vs : List Local) where
     expr_says (syntax.Var line name) =
         says_leaf _ _ _ refl (expr_own vs (syntax.Var line name) (name_meant name (variable_of vs name)) (name_types name (variable_of vs name)))
     expr_says (syntax.Num line value) = says_leaf _ _ _ refl (refl, refl)
+    expr_says (syntax.Chr line byte) = says_leaf _ _ _ refl (refl, refl)
     expr_says (syntax.Str line text) = says_leaf _ _ _ refl refl
+    expr_says (syntax.Paren line a) = says_one _ _ _ _ _ _ refl (expr_says a) (λ x t. expr_own vs (syntax.Paren line a) (Fine (passed x)) (ap Fine t))
+    expr_says (syntax.One line op a) =
+        says_one _ _ _ _ _ _ refl (expr_says a) (λ x t. expr_own vs (syntax.One line op a) (prefixed op x) (prefixed_types op x ∙ ap (of_one op) t))
     expr_says (syntax.Call line name args) = call_says (syntax.Call line name args) name args (bytes_eq name usage_word) refl refl (exprs_say args)
     expr_says (syntax.Set line place None value) =
         says_two _ _ _ _ _ _ _ _ _ refl (place_says place) (expr_says value)
         (λ to x t u. expr_own vs (syntax.Set line place None value) (assigned line to x) (type_of_test _ _ _ _ ∙ ap₂ set_type t u))
-    expr_says (syntax.Two line (c.On op) a b) =
+    expr_says (syntax.Two line op a b) =
         says_two _ _ _ _ _ _ _ _ _ refl (expr_says a) (expr_says b)
-        (λ x y t u. expr_own vs (syntax.Two line (c.On op) a b) (operated op x y) (typed_types _ _ ∙ ap₂ (of_two op) t u))
+        (λ x y t u. expr_own vs (syntax.Two line op a b) (combined op x y) (combined_types op x y ∙ ap₂ (combined_type op) t u))
+    expr_says (syntax.Choice line test a b) =
+        says_three _ _ _ _ _ _ _ _ _ _ _ _ refl (expr_says test) (expr_says a) (expr_says b)
+        (λ t x y d e f. expr_own vs (syntax.Choice line test a b) (chosen line t x y)
+        (typed_types _ _ ∙ ap (λ z. of_choice z x.of_type y.of_type) d ∙ ap₂ (of_choice (expr_type vs test)) e f))
     expr_says (syntax.Cast line to a) =
         says_one _ _ _ _ _ _ refl (expr_says a)
         (λ x t. expr_own vs (syntax.Cast line to a) (cast (type_named to.name to.stars) x) (typed_types _ _ ∙ ap (of_cast (type_named to.name to.stars)) t))

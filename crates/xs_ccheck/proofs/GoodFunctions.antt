@@ -4,10 +4,11 @@ use Rattle.std.proofs.lemmas.Option.{same_Some}
 use Rattle.xs_cstmt.specs.StatementTree.{StmtTrees}
 use Rattle.xs_csyn.specs.FileTree.{XsFunTree, ItemTree, XsFunItem, FileTree}
 use Rattle.xs_ctree.specs.TypedTree.{Code, Function, Stmt}
-use Rattle.xs_ccheck.specs.Checked.{Checked, Good, Bad, answer, behind, both, more, Fine, Wrong, judged}
-use Rattle.xs_ccheck.specs.FileTyping.{behind_entry, code_meant, defines, entry_of, function, function_done, function_judged, functions, is_boot_name, is_earlier, item, names_of, typed_of, where_in, with_entry}
-use Rattle.xs_ccheck.specs.Scopes.{beginning, scopes_behind}
-use Rattle.xs_ccheck.specs.StmtTyping.{FileNames, index_of, stmts}
+use Rattle.xs_ctypes.specs.Checked.{Checked, Good, Bad, answer, behind, both, more, Fine, Wrong, judged}
+use Rattle.xs_ccheck.specs.FileTyping.{behind_entry, code_meant, defines, entry_of, function, function_done, function_judged, functions, item, typed_of, where_in, with_entry}
+use Rattle.xs_ctypes.specs.FileNames.{FileNames, index_of, is_boot_name, is_earlier, names_of}
+use Rattle.xs_ctypes.specs.Scopes.{beginning, scopes_behind}
+use Rattle.xs_ccheck.specs.StmtTyping.{stmts}
 
 -- the statements of a function behind its entry
 abbrev pub statements_of : XsFunTree → StmtTrees

@@ -21,12 +21,13 @@ use Rattle.xs_ctree.specs.Functions.{stmt_in}
 use Rattle.xs_ctree.specs.Growth.{AddsStmt, HasStmt, groups_in}
 use Rattle.xs_ctree.specs.TypedTree.{Expr, Stmt, Switch}
 use Rattle.xs_ctree.proofs.Additions.{keeps_all}
-use Rattle.xs_ccheck.specs.declared.names.Where.{Where}
-use Rattle.xs_ccheck.specs.Checked.{Checked, Good, both, judged}
-use Rattle.xs_ccheck.specs.Joining.{joined}
+use Rattle.xs_ccheck.specs.declared.enclosing.Where.{Where}
+use Rattle.xs_ctypes.specs.Checked.{Checked, Good, both, judged}
+use Rattle.xs_ctypes.specs.Joining.{joined}
 use Rattle.xs_ccheck.specs.Resolving.{GivesGroup, GivesLabels, GivesStmts, HasGroup, HaveLabels, HaveStmts, Resolved, Resolves, UnlessMemory, all_stmts_in, group_in, group_made, label_in}
-use Rattle.xs_ccheck.specs.Scopes.{Scope}
-use Rattle.xs_ccheck.specs.StmtTyping.{FileNames, group, labels, stmts, switched, typed_group}
+use Rattle.xs_ctypes.specs.Scopes.{Scope}
+use Rattle.xs_ccheck.specs.StmtTyping.{group, labels, stmts, switched, typed_group}
+use Rattle.xs_ctypes.specs.FileNames.{FileNames}
 use Rattle.xs_ccheck.proofs.Lists.{groups_are}
 use Rattle.xs_ccheck.proofs.JoinedParts.{HasPair, Stays, joined_resolves, node_refuses, node_resolves, pair_in}
 use Rattle.xs_ccheck.proofs.LeastFaults.{both_behind}

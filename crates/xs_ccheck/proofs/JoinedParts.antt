@@ -7,8 +7,8 @@ use Rattle.xs_ctree.specs.Functions.{stmt_in}
 use Rattle.xs_ctree.specs.Growth.{HasStmt, Keeps}
 use Rattle.xs_ctree.proofs.Additions.{keeps_on}
 use Rattle.xs_ccheck.specs.declared.exprs.TypedNode.{TypedNode}
-use Rattle.xs_ccheck.specs.Checked.{Checked, Good, behind, both}
-use Rattle.xs_ccheck.specs.Joining.{joined}
+use Rattle.xs_ctypes.specs.Checked.{Checked, Good, behind, both}
+use Rattle.xs_ctypes.specs.Joining.{joined}
 use Rattle.xs_ccheck.specs.Resolving.{HasOption, HasTyped, Refuses, Resolves, option_in, typed_in}
 use Rattle.xs_ccheck.proofs.Collecting.{resolves_on}
 

@@ -3,7 +3,7 @@
 use Rattle.std.proofs.Common.{◌≡◌, ◌⊎◌, inl, inr, ℕ, zero, suc, Bool, true, false, cond, List, [], ◌∷◌, Some, None, slice_get, refl, sym, ap, ◌∙◌, subst, arith}
 use Rattle.std.proofs.lemmas.Option.{same_Some}
 use Rattle.xs_base.specs.declared.fault.Fault.{Fault}
-use Rattle.xs_ccheck.specs.Checked.{Checked, Good, Bad, behind, both, is_before, four, lesser, three}
+use Rattle.xs_ctypes.specs.Checked.{Checked, Good, Bad, behind, both, is_before, four, lesser, three}
 use Rattle.xs_ccheck.specs.FaultSet.{Node, parts, own, IsSound, sound, AreSound, no_more, one_more, IsFault, here, within, IsLeftOf, StandsBefore}
 use Rattle.xs_ccheck.proofs.FaultOrder.{before_on, before_trans, told_before, told_behind}
 

@@ -1,8 +1,9 @@
+pub mod Alike
 pub mod CodeTyped
 pub mod Collecting
+pub mod ExprParts
 pub mod ExprSizes
 pub mod GroupParts
-pub mod HeldNames
 pub mod JoinedParts
 pub mod FaultOrder
 pub mod FaultsTold
@@ -12,7 +13,7 @@ pub mod LeastFaults
 pub mod Lists
 pub mod LoopParts
 pub mod Loops
-pub mod ScopesGrow
+pub mod OperatorsAlike
 pub mod SlotsMeant
 pub mod StmtSizes
 pub mod Unlined

@@ -17,8 +17,8 @@ use Rattle.xs_ctree.specs.Growth.{AddsStmt, HasStmt, Keeps, groups_in, has_stmts
 use Rattle.xs_ctree.specs.TypedTree.{MoreGroups, Stmt, stmts_of}
 use Rattle.xs_ctree.proofs.Opening.{map_same}
 use Rattle.xs_ccheck.specs.declared.exprs.TypedNode.{TypedNode}
-use Rattle.xs_ccheck.specs.Checked.{Checked, Good, Bad, more}
-use Rattle.xs_ccheck.specs.Joining.{first_of, settled}
+use Rattle.xs_ctypes.specs.Checked.{Checked, Good, Bad, more}
+use Rattle.xs_ctypes.specs.Joining.{first_of, settled}
 use Rattle.xs_ccheck.specs.Resolving.{GivesNone, HasGroup, HasLabel, HasTyped, HaveGroups, HaveLabels, HaveStmts, HaveTyped, Stand, all_stmts_in, group_in, label_in, nodes_of, typed_in}
 use Rattle.xs_ccheck.specs.StmtTyping.{groups_of, typed_group}
 use Rattle.xs_ccheck.proofs.Collecting.{Lasts, on, on_two}

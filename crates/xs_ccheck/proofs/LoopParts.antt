@@ -11,13 +11,14 @@ use Rattle.xs_ctree.specs.Growth.{HasStmt}
 use Rattle.xs_ctree.specs.declared.value_type.Slot.{Slot}
 use Rattle.xs_ctree.specs.TypedTree.{Loop, Stmt, When}
 use Rattle.xs_ccheck.specs.declared.exprs.TypedNode.{TypedNode}
-use Rattle.xs_ccheck.specs.declared.names.Where.{Where}
-use Rattle.xs_ccheck.specs.Checked.{Checked, Good, behind, both, four, judged}
+use Rattle.xs_ccheck.specs.declared.enclosing.Where.{Where}
+use Rattle.xs_ctypes.specs.Checked.{Checked, Good, behind, both, four, judged}
 use Rattle.xs_ccheck.specs.ExprTyping.{TypedExpr, expr, option_expr}
-use Rattle.xs_ccheck.specs.Joining.{joined}
+use Rattle.xs_ctypes.specs.Joining.{joined}
 use Rattle.xs_ccheck.specs.Resolving.{ForEnds, ForParts, GivesExpr, GivesOption, GivesStmt, HasOption, HasTyped, Resolves, UnlessMemory, option_in, typed_in}
-use Rattle.xs_ccheck.specs.Scopes.{Scope, declared_in, first_behind, knowing, outside, scope_behind}
-use Rattle.xs_ccheck.specs.StmtTyping.{FileNames, conditional, first_part, for_loop, in_turn, stmt}
+use Rattle.xs_ctypes.specs.Scopes.{Scope, declared_in, first_behind, knowing, outside, scope_behind}
+use Rattle.xs_ccheck.specs.StmtTyping.{conditional, first_part, for_loop, in_turn, stmt}
+use Rattle.xs_ctypes.specs.FileNames.{FileNames}
 use Rattle.xs_ccheck.proofs.Collecting.{joined_first}
 use Rattle.xs_ccheck.proofs.JoinedParts.{HasPair, joined_resolves, node_refuses, node_resolves, option_stays, pair_in, stmt_stays}
 use Rattle.xs_ccheck.proofs.LeastFaults.{both_behind}

@@ -9,11 +9,10 @@ use Rattle.xs_base.specs.declared.fault_codes.TheConstants.{TYPES_DIFFER}
 use Rattle.xs_base.specs.declared.source.FileOf.TheVariants as file
 use Rattle.xs_base.specs.Reading.{not_built_in}
 use Rattle.xs_csyn.specs.declared.tree.Define.{Define}
-use Rattle.xs_values.specs.declared.operator.Op.{Op}
 use Rattle.xs_perlapi.specs.Table.{RowCall}
 use Rattle.xs_ctree.specs.declared.value_type.ValueType.{ValueType}
-use Rattle.xs_ccheck.specs.ValueTypes.{result_type}
-use Rattle.xs_cinput.specs.declared.tree.BinaryOp.TheVariants.{On}
+use Rattle.xs_ctypes.specs.ValueTypes.{result_type}
+use Rattle.xs_cinput.specs.declared.tree.BinaryOp.{BinaryOp}
 use Rattle.xs_cexpr.specs.declared.tree.Expr.{Expr}
 use Rattle.xs_cexpr.specs.ExpressionTree.{ExprTree, PlaceTree, Set, Two, exprs_of}
 use Rattle.xs_cexpr.specs.ExpressionViews.{expr_tree}
@@ -36,14 +35,15 @@ use Rattle.xs_ctree.specs.TypedTree as tree
 use Rattle.xs_ctree.proofs.Additions.{keeps_on}
 use Rattle.xs_ccheck.specs.declared.exprs.PlaceNode.{PlaceNode}
 use Rattle.xs_ccheck.specs.declared.exprs.TypedNode.{TypedNode}
-use Rattle.xs_ccheck.specs.declared.names.Where.{Where}
-use Rattle.xs_ccheck.specs.Checked.{Checked, Good, Bad, both, Fine, Wrong, judged, more}
-use Rattle.xs_ccheck.specs.ExprTyping.{TypedExpr, all_fit, as_typed, assigned, expr, exprs, operated, place_in, row_called, row_judged}
+use Rattle.xs_ccheck.specs.declared.enclosing.Where.{Where}
+use Rattle.xs_ctypes.specs.Checked.{Checked, Good, Bad, both, Fine, Wrong, judged, more}
+use Rattle.xs_ccheck.specs.ExprTyping.{TypedExpr, all_fit, as_typed, assigned, combined, expr, exprs, place_in, row_called, row_judged}
 use Rattle.xs_ccheck.specs.FileTyping.{defines, functions, item}
-use Rattle.xs_ccheck.specs.Joining.{Notes, TakesUp, joined, settled}
+use Rattle.xs_ctypes.specs.Joining.{Notes, TakesUp, joined, settled}
 use Rattle.xs_ccheck.specs.Resolving.{GivesExpr, GivesFunction, GivesFunctions, GivesTarget, HasTarget, HasTyped, all_typed_in, nodes_of, Resolved, UnlessMemory, target_in, typed_in}
-use Rattle.xs_ccheck.specs.Scopes.{Local, Scope, declarators_behind, groups_behind, name_behind, scope_behind, scopes_behind}
-use Rattle.xs_ccheck.specs.StmtTyping.{FileNames, declarator, declarators, group, groups, label_number, labels, line_of_label, stmt, stmts}
+use Rattle.xs_ctypes.specs.Scopes.{Local, Scope, declarators_behind, groups_behind, name_behind, scope_behind, scopes_behind}
+use Rattle.xs_ccheck.specs.StmtTyping.{declarator, declarators, group, groups, label_number, labels, line_of_label, stmt, stmts}
+use Rattle.xs_ctypes.specs.FileNames.{FileNames}
 use Rattle.xs_ccheck.proofs.Collecting.{joined_first, joined_second, on, on_first, on_good, on_two, resolves_on}
 
 -- ---- nodes of two parts
@@ -75,16 +75,16 @@ module _ (vs : List Local) (line : ℕ) (old one two new : Typed) (res : Result 
       ∙ ap (λ q. judged line (assigned line q (typed_in two x))) (sym (place_kept one two second.keeps p first.there_is)) in
       resolves_on typed_in HasTyped res old two new _ (keeps_on old one two first.keeps second.keeps) (subst (λ z. GivesExpr res two new z) (sym read) r)
 
-  pub operation : (op : Op) (a b : ExprTree) (y : TypedNode) (w : Result TypedNode Refuse)
+  pub operation : (op : BinaryOp) (a b : ExprTree) (y : TypedNode) (w : Result TypedNode Refuse)
       → GivesExpr w old one (expr vs a) → GivesExpr v one two (expr vs b) → joined w v ≡ Ok (y, x)
-      → GivesExpr res two new (judged line (operated op (typed_in two y) (typed_in two x))) → GivesExpr res old new (expr vs (Two line (On op) a b))
+      → GivesExpr res two new (judged line (combined op (typed_in two y) (typed_in two x))) → GivesExpr res old new (expr vs (Two line op a b))
   unfolding expr
   operation op a b y w h g e r =
       let first : Resolved typed_in HasTyped y old one (expr vs a) = subst (λ z. GivesExpr z old one (expr vs a)) (joined_first w v y x e) h in
       let second : Resolved typed_in HasTyped x one two (expr vs b) = subst (λ z. GivesExpr z one two (expr vs b)) (joined_second w v y x e) g in
-      let read : expr vs (Two line (On op) a b) ≡ judged line (operated op (typed_in two y) (typed_in two x)) =
-      ap₂ (λ c d. both c d (λ q z. judged line (operated op q z))) first.means second.means
-      ∙ ap (λ q. judged line (operated op q (typed_in two x))) (sym (typed_kept one two second.keeps y first.there_is)) in
+      let read : expr vs (Two line op a b) ≡ judged line (combined op (typed_in two y) (typed_in two x)) =
+      ap₂ (λ c d. both c d (λ q z. judged line (combined op q z))) first.means second.means
+      ∙ ap (λ q. judged line (combined op q (typed_in two x))) (sym (typed_kept one two second.keeps y first.there_is)) in
       resolves_on typed_in HasTyped res old two new _ (keeps_on old one two first.keeps second.keeps) (subst (λ z. GivesExpr res two new z) (sym read) r)
 
 -- ---- rows

@@ -1,12 +1,15 @@
 -- The slots of the code of a function are those that its text means.
 use Rattle.std.proofs.Common.{◌≡◌, ℕ, ◌+◌, Bool, true, false, cond, List, [], ◌∷◌, ◌++◌, map, length, codes, Option, None, Some, Ok, slice_get, refl, sym, ap, ap₂, ◌∙◌, subst, append_assoc, append-nil}
 use Rattle.std.specs.Option.{option_map, is_some}
-use Rattle.std.specs.Prelude.{◌||◌, nat_eq}
+use Rattle.std.specs.Prelude.{◌&&◌, ◌||◌, nat_eq}
 use Rattle.std.specs.Str.{bytes_eq}
 use Rattle.std.proofs.lemmas.Bool.{or_parts}
 use Rattle.std.proofs.lemmas.List.{length-append, map-append}
 use Rattle.std.proofs.lemmas.Slice.Eq.{bytes_eq-Decides}
 use Rattle.xs_base.specs.declared.fault_codes.TheConstants.{DECLARED_TWICE, TYPES_DIFFER, WORD_NOT_ALLOWED}
+use Rattle.xs_values.specs.declared.unary_operator.UnOp.{UnOp}
+use Rattle.xs_values.specs.declared.unary_operator.UnOp.TheVariants as unary
+use Rattle.xs_cinput.specs.declared.tree.BinaryOp.{BinaryOp}
 use Rattle.xs_cinput.specs.declared.tree.BinaryOp.TheVariants as c
 use Rattle.xs_cexpr.specs.ExpressionTree as syntax
 use Rattle.xs_cexpr.specs.ExpressionTree.{ExprTree, ExprTrees, PlaceTree, VarPlace, StPlace}
@@ -25,17 +28,18 @@ use Rattle.xs_ctree.specs.declared.value_type.ValueType.TheVariants as type_of
 use Rattle.xs_values.specs.Numbers.{Number}
 use Rattle.xs_ctree.specs.TypedTree.{Code, Expr, Exprs, NoExprs, MoreExprs, Literal, Variable, ItemCount, Cast, Binary, Assign, Api, Usage, Target, ToVariable, ToItem, Function, Stmt, Stmts, exprs_of, nothing, stmts_of}
 use Rattle.xs_ctree.specs.TypedTree as typed_tree
-use Rattle.xs_ccheck.specs.declared.names.Where.{Where}
-use Rattle.xs_ccheck.specs.Checked.{Checked, Good, Bad, behind, both, Judged, Fine, Wrong, judged}
-use Rattle.xs_ccheck.specs.ExprTyping.{TypedExpr, TypedTarget, all_fit, called, expr, exprs, name_meant, option_expr, place_in, typed, usage, usage_of, usage_word, is_cv, text_in, variable_place}
-use Rattle.xs_ccheck.specs.FileTyping.{behind_entry, entry_form, entry_of, function_done, is_boot_name, typed_of, where_in, with_entry}
-use Rattle.xs_ccheck.specs.Scopes.{Local, Scope, beginning, declared_in, declarators_behind, first_behind, groups_behind, is_in_use, name_behind, new_variable, next_slot, outside, scope_behind, scopes_behind, variable_of, with_variable}
-use Rattle.xs_ccheck.specs.StmtTyping.{FileNames, TypedGroup, begun, conditional, declaration, declarator, declarators, declared, first_part, for_loop, function_end, groups, groups_of, in_group, in_order, in_turn, index_of, is_given, is_test, labels, may_return, perl, perl_word, quits, registered, returned, stated, stmt, stmts, switched, test_of, unset}
-use Rattle.xs_ccheck.specs.TypeNames.{declared_type, type_named}
-use Rattle.xs_ccheck.specs.ValueTypes.{is_condition, is_number, goes_into, of_cast, of_two}
+use Rattle.xs_ccheck.specs.declared.enclosing.Where.{Where}
+use Rattle.xs_ctypes.specs.Checked.{Checked, Good, Bad, behind, both, Judged, Fine, Wrong, judged}
+use Rattle.xs_ccheck.specs.ExprTyping.{TypedExpr, TypedTarget, all_fit, calculated, called, combined, compared, expr, exprs, name_meant, option_expr, place_in, prefixed, typed, usage, usage_of, usage_word, is_cv, text_in, variable_place}
+use Rattle.xs_ccheck.specs.FileTyping.{behind_entry, entry_form, entry_of, function_done, typed_of, where_in, with_entry}
+use Rattle.xs_ctypes.specs.FileNames.{FileNames, index_of, is_boot_name}
+use Rattle.xs_ctypes.specs.Scopes.{Local, Scope, beginning, declared_in, declarators_behind, first_behind, groups_behind, is_in_use, name_behind, new_variable, next_slot, outside, scope_behind, scopes_behind, variable_of, with_variable}
+use Rattle.xs_ccheck.specs.StmtTyping.{TypedGroup, begun, conditional, declaration, declarator, declarators, declared, first_part, for_loop, function_end, groups, groups_of, in_group, in_order, in_turn, is_given, is_test, labels, may_return, perl, perl_word, quits, registered, returned, stated, stmt, stmts, switched, test_of, unset}
+use Rattle.xs_ctypes.specs.TypeNames.{declared_type, type_named}
+use Rattle.xs_ctypes.specs.ValueTypes.{are_conditions, are_numbers, compares, is_condition, is_equality, is_number, goes_into, of_cast, of_choice, of_numbers, of_promoted}
 use Rattle.xs_ccheck.proofs.GoodFunctions.{OfItem, each_function, function_of, statements_of}
-use Rattle.xs_ccheck.proofs.ScopesGrow.{Grown, Numbered, block_end, first_grown, found_last, grown_trans, is_none_of, scope_grown, scopes_grown}
-use Rattle.xs_ccheck.proofs.WhereGood.{WhereFine, WhereGood, behind_good, both_good, fine_by, judged_good, two_wrongs}
+use Rattle.xs_ctypes.proofs.ScopesGrow.{Grown, Numbered, block_end, first_grown, found_last, grown_trans, is_none_of, scope_grown, scopes_grown}
+use Rattle.xs_ccheck.proofs.WhereGood.{WhereFine, WhereGood, behind_good, both_good, either_fine, fine_by, judged_good, three_good, two_wrongs}
 use Rattle.xs_ccheck.specs.SlotUses.{SlotUse, Declares, Uses, slots_declared, in_expr, in_exprs, in_target, in_test, in_each, in_stmt, in_stmts, in_groups, Named, Known, nothing_known, last_declared, knowing_also, known_behind, known_behind_all, known_behind_names, known_behind_groups, known_first, known_outside, use_of, meant_in_expr, meant_in_exprs, meant_in_place, meant_in_value, meant_in_name, meant_in_names, meant_in_first, meant_in_stmt, meant_in_stmts, meant_in_groups, HasItsSlots}
 
 -- ---- expressions
@@ -79,6 +83,21 @@ typed_does : (f : ValueType → Expr) (j : Judged ValueType) (uses : List SlotUs
 typed_does f (Fine t) uses h = h t
 typed_does f (Wrong code word) uses h = tt
 
+prefixed_does : (op : UnOp) (x : TypedExpr) (uses : List SlotUse) → in_typed x ≡ uses → WhereFine (Doing in_typed uses) (prefixed op x)
+prefixed_does unary.Not x uses e = fine_by (Doing in_typed uses) (is_condition x.of_type) (Fine _) _ _ e
+prefixed_does unary.Plus x uses e = typed_does _ (of_promoted unary.Plus x.of_type) uses (λ t. e)
+prefixed_does unary.Minus x uses e = typed_does _ (of_promoted unary.Minus x.of_type) uses (λ t. e)
+prefixed_does unary.Complement x uses e = typed_does _ (of_promoted unary.Complement x.of_type) uses (λ t. e)
+
+combined_does : (op : BinaryOp) (x y : TypedExpr) (uses : List SlotUse) → in_typed x ++ in_typed y ≡ uses
+    → WhereFine (Doing in_typed uses) (combined op x y)
+combined_does (c.On op) x y uses e =
+    either_fine (Doing in_typed uses) (are_numbers x.of_type y.of_type) (calculated op x y) (compared op x y)
+    (typed_does _ (of_numbers op x.of_type y.of_type) uses (λ t. e))
+    (fine_by (Doing in_typed uses) (compares x.of_type y.of_type && is_equality op) (Fine _) _ _ e)
+combined_does c.Or x y uses e = fine_by (Doing in_typed uses) (are_conditions x.of_type y.of_type) (Fine _) _ _ e
+combined_does c.And x y uses e = fine_by (Doing in_typed uses) (are_conditions x.of_type y.of_type) (Fine _) _ _ e
+
 called_does : (line : ℕ) (name : List ℕ) (o : Option RowCall) (xs : List TypedExpr) (uses : List SlotUse) → in_all xs ≡ uses
     → WhereFine (Doing in_typed uses) (called line name o xs)
 called_does line name None xs uses e = tt
@@ -108,7 +127,13 @@ module _ (vs : List Local) (ns : List Named) (agree : Agree vs ns) where
     expr_does : (e : ExprTree) → Does in_typed (meant_in_expr ns e) (expr vs e)
     expr_does (syntax.Var line name) = judged_good (Doing in_typed _) line _ (name_does name (variable_of vs name) (last_declared ns name) (agree name))
     expr_does (syntax.Num line value) = record { good = refl }
+    expr_does (syntax.Chr line byte) = record { good = refl }
     expr_does (syntax.Str line text) = record { good = tt }
+    expr_does (syntax.Paren line a) =
+        behind_good (Doing in_typed (meant_in_expr ns a)) (Doing in_typed _) (expr vs a) _ (expr_does a) (λ x e. record { good = e })
+    expr_does (syntax.One line op a) =
+        behind_good (Doing in_typed (meant_in_expr ns a)) (Doing in_typed _) (expr vs a) _ (expr_does a)
+        (λ x e. judged_good (Doing in_typed _) line _ (prefixed_does op x _ e))
     expr_does (syntax.Call line name args) =
         by_word in_typed [] (meant_in_exprs ns args) (bytes_eq name usage_word) _ _ (judged_good (Doing in_typed []) line _ (usage_does line args))
         (behind_good (Doing in_all (meant_in_exprs ns args)) (Doing in_typed (meant_in_exprs ns args)) (exprs vs args) _ (exprs_do args)
@@ -118,10 +143,15 @@ module _ (vs : List Local) (ns : List Named) (agree : Agree vs ns) where
         (place_does place)
         (expr_does value)
         (λ to x d e. judged_good (Doing in_typed _) line _ (fine_by (Doing in_typed _) (goes_into x.of_type to.of_type) (Fine _) _ _ (ap₂ (λ u v. u ++ v) d e)))
-    expr_does (syntax.Two line (c.On op) a b) =
+    expr_does (syntax.Two line op a b) =
         both_good (Doing in_typed (meant_in_expr ns a)) (Doing in_typed (meant_in_expr ns b)) (Doing in_typed _) (expr vs a) (expr vs b) _
         (expr_does a) (expr_does b)
-        (λ x y d e. judged_good (Doing in_typed _) line _ (typed_does _ (of_two op x.of_type y.of_type) _ (λ t. ap₂ (λ u v. u ++ v) d e)))
+        (λ x y d e. judged_good (Doing in_typed _) line _ (combined_does op x y _ (ap₂ (λ u v. u ++ v) d e)))
+    expr_does (syntax.Choice line test a b) =
+        three_good (Doing in_typed (meant_in_expr ns test)) (Doing in_typed (meant_in_expr ns a)) (Doing in_typed (meant_in_expr ns b)) (Doing in_typed _)
+        (expr vs test) (expr vs a) (expr vs b) _ (expr_does test) (expr_does a) (expr_does b)
+        (λ t x y d e f. judged_good (Doing in_typed _) line _
+        (typed_does _ (of_choice t.of_type x.of_type y.of_type) _ (λ ty. ap₂ (λ u v. u ++ v) d (ap₂ (λ u v. u ++ v) e f))))
     expr_does (syntax.Cast line to a) =
         behind_good (Doing in_typed (meant_in_expr ns a)) (Doing in_typed _) (expr vs a) _ (expr_does a)
         (λ x e. judged_good (Doing in_typed _) line _ (typed_does _ (of_cast (type_named to.name to.stars) x.of_type) _ (λ t. e)))

@@ -7,7 +7,6 @@ use Rattle.std.proofs.lemmas.List.{map-id, take-map, drop-map, length-map, map-a
 use Rattle.std.proofs.lemmas.Option.{same_Some}
 use Rattle.xs_base.specs.declared.fault.Fault.{Fault}
 use Rattle.xs_base.specs.declared.fault_codes.TheConstants.{DECLARED_TWICE, TYPES_DIFFER, WRONG_NUMBER_OF_ARGUMENTS, UNKNOWN_NAME}
-use Rattle.xs_cinput.specs.declared.tree.BinaryOp.TheVariants as c
 use Rattle.xs_cexpr.specs.ExpressionTree as syntax_expr
 use Rattle.xs_cexpr.specs.ExpressionTree.{ExprTree, ExprTrees, PlaceTree, VarPlace, StPlace, unlined_expr, unlined_exprs, unlined_place}
 use Rattle.xs_cstmt.specs.StatementTree as syntax_stmt
@@ -20,7 +19,6 @@ use Rattle.xs_cstmt.specs.declared.tree.PerlWord.{PerlWord}
 use Rattle.xs_cstmt.specs.declared.tree.PerlWord.TheVariants as word
 use Rattle.xs_csyn.specs.declared.tree.Define.{Define}
 use Rattle.xs_csyn.specs.FileTree.{XsFunTree, ItemTree, XsFunItem, FileTree, unlined, unlined_define, unlined_item}
-use Rattle.xs_values.specs.declared.operator.Op.{Op}
 use Rattle.xs_values.specs.Kinds.{promoted}
 use Rattle.xs_values.specs.Numbers.{Number}
 use Rattle.xs_perlapi.specs.declared.row.ApiType.{ApiType}
@@ -29,79 +27,18 @@ use Rattle.xs_ctree.specs.declared.value_type.Slot.{Slot}
 use Rattle.xs_ctree.specs.declared.value_type.ValueType.{ValueType}
 use Rattle.xs_ctree.specs.declared.value_type.ValueType.TheVariants as type_of
 use Rattle.xs_perlapi.specs.declared.row.Row.TheVariants.{Entry}
-use Rattle.xs_ctree.specs.TypedTree.{Expr, NoExprs, MoreExprs, Binary, Cast, Assign, Api, ToItem, When, Stmt, NoStmts, MoreStmts, MoreGroups, Block, Effect, Declare, If, Loop, Switch, Break, Continue, Return, Give, Quit, nothing, Code, exprs_of, stmts_of, bare, bare_expr, bare_exprs, bare_function, bare_groups, bare_slot, bare_stmt, bare_stmts, bare_target, bare_test}
-use Rattle.xs_ccheck.specs.declared.names.Where.{Where}
-use Rattle.xs_ccheck.specs.Checked.{Checked, Good, Bad, answer, behind, both, four, more, Judged, Fine, Wrong, judged, unbuilt}
-use Rattle.xs_ccheck.specs.ExprTyping.{TypedExpr, TypedTarget, all_fit, as_typed, assigned, called, cast, expr, exprs, is_cv, item_place, name_meant, operated, option_expr, place_in, row_judged, text_in, typed, usage, usage_of, usage_word, variable_place, unknown}
-use Rattle.xs_ccheck.specs.FileTyping.{behind_entry, code_meant, defines, entry_form, entry_line, entry_of, entry_word, function, function_done, function_from, function_judged, functions, is_boot_name, is_earlier, item, item_name, names_of, sort_of, typed_of, where_in, with_entry}
-use Rattle.xs_ccheck.specs.Scopes.{Local, Scope, beginning, declared_in, declarators_behind, first_behind, groups_behind, is_in_use, knowing, name_behind, new_variable, next_slot, scope_behind, scopes_behind, variable_of, with_variable}
-use Rattle.xs_ccheck.specs.StmtTyping.{FileNames, TypedGroup, begun, conditional, declaration, declarator, declarators, declared, effect, first_part, for_loop, function_end, groups, groups_of, in_group, in_order, in_turn, index_of, is_given, is_test, label_number, labelled, labels, line_of_label, may_return, perl, perl_word, quits, stated, stmt, stmts, switched, test_of, typed_group, unset, unused}
-use Rattle.xs_ccheck.specs.TypeNames.{declared_type, type_named}
-use Rattle.xs_ccheck.specs.ValueTypes.{goes_into, is_condition, is_number, is_operand, of_cast, of_two, result_type}
-
--- ---- two answers that are the same where `view` sees them
-
-abbrev seen : {A B : Type 0} → (A → B) → Checked A → Option B
-seen view (Good a) = Some (view a)
-seen view (Bad f) = None
-
-record Alike {A B : Type 0} (view : A → B) (r s : Checked A) : Type 0 where
-  is : seen view r ≡ seen view s
-
-abbrev seen_in : {A B : Type 0} → (A → B) → Judged A → Option B
-seen_in view (Fine a) = Some (view a)
-seen_in view (Wrong code word) = None
-
-record AlikeIn {A B : Type 0} (view : A → B) (j k : Judged A) : Type 0 where
-  is : seen_in view j ≡ seen_in view k
-
-good : {A B : Type 0} (view : A → B) (a b : A) → view a ≡ view b → Alike view (Good a) (Good b)
-good view a b e = record { is = ap Some e }
-
-fine : {A B : Type 0} (view : A → B) (a b : A) → view a ≡ view b → AlikeIn view (Fine a) (Fine b)
-fine view a b e = record { is = ap Some e }
-
-wrongs : {A B : Type 0} (view : A → B) (m n : ℕ) (v w : List ℕ) → AlikeIn view (Wrong m v) (Wrong n w)
-wrongs view m n v w = record { is = refl }
-
-by_test : {A B : Type 0} (view : A → B) (b : Bool) (j k l m : Judged A) → AlikeIn view j k → AlikeIn view l m → AlikeIn view (cond b j l) (cond b k m)
-by_test view true j k l m h1 h2 = h1
-by_test view false j k l m h1 h2 = h2
-
-judged_alike : {A B : Type 0} (view : A → B) (m n : ℕ) (j k : Judged A) → AlikeIn view j k → Alike view (judged m j) (judged n k)
-judged_alike view m n (Fine a) (Fine b) h = record { is = h.is }
-judged_alike view m n (Wrong d v) (Wrong e w) h = record { is = refl }
-judged_alike view m n (Fine a) (Wrong e w) h = let e = h.is in absurd cc
-judged_alike view m n (Wrong d v) (Fine b) h = let e = h.is in absurd cc
-
--- the same judgement at two lines
-at_lines : {A B : Type 0} (view : A → B) (m n : ℕ) (j : Judged A) → Alike view (judged m j) (judged n j)
-at_lines view m n j = judged_alike view m n j j (record { is = refl })
-
-after : {A B C D : Type 0} (view : A → B) (shown : C → D) (r s : Checked A) (k l : A → Checked C) → Alike view r s
-    → ((a b : A) → view a ≡ view b → Alike shown (k a) (l b)) → Alike shown (behind r k) (behind s l)
-after view shown (Good a) (Good b) k l h next = next a b (same_Some (view a) (view b) h.is)
-after view shown (Bad f) (Bad g) k l h next = record { is = refl }
-after view shown (Good a) (Bad g) k l h next = let e = h.is in absurd cc
-after view shown (Bad f) (Good b) k l h next = let e = h.is in absurd cc
-
-after_both : {A B C D E F : Type 0} (u : A → B) (v : C → D) (w : E → F) (p q : Checked A) (r s : Checked C) (k l : A → C → Checked E)
-    → Alike u p q → Alike v r s → ((a b : A) (x y : C) → u a ≡ u b → v x ≡ v y → Alike w (k a x) (l b y))
-    → Alike w (both p r k) (both q s l)
-after_both u v w (Good a) (Good b) (Good x) (Good y) k l h g next = next a b x y (same_Some (u a) (u b) h.is) (same_Some (v x) (v y) g.is)
-after_both u v w (Good a) (Good b) (Bad f) (Bad d) k l h g next = record { is = refl }
-after_both u v w (Bad f) (Bad d) (Good x) (Good y) k l h g next = record { is = refl }
-after_both u v w (Bad f) (Bad d) (Bad f1) (Bad d1) k l h g next = record { is = refl }
-after_both u v w (Good a) (Bad d) r s k l h g next = let e = h.is in absurd cc
-after_both u v w (Bad f) (Good b) r s k l h g next = let e = h.is in absurd cc
-after_both u v w (Good a) (Good b) (Good x) (Bad d) k l h g next = let e = g.is in absurd cc
-after_both u v w (Good a) (Good b) (Bad f) (Good y) k l h g next = let e = g.is in absurd cc
-after_both u v w (Bad f) (Bad d) (Good x) (Bad d1) k l h g next = let e = g.is in absurd cc
-after_both u v w (Bad f) (Bad d) (Bad f1) (Good y) k l h g next = let e = g.is in absurd cc
-
-more_alike : {A B : Type 0} (view : A → B) (p q : Checked A) (r s : Checked (List A)) → Alike view p q → Alike (map view) r s
-    → Alike (map view) (more p r) (more q s)
-more_alike view p q r s h g = after_both view (map view) (map view) p q r s _ _ h g (λ a b xs ys e k. record { is = ap Some (ap₂ (λ x zs. x ∷ zs) e k) })
+use Rattle.xs_ctree.specs.TypedTree.{Expr, NoExprs, MoreExprs, Passed, Cast, Assign, Api, ToItem, When, Stmt, NoStmts, MoreStmts, MoreGroups, Block, Effect, Declare, If, Loop, Switch, Break, Continue, Return, Give, Quit, nothing, Code, exprs_of, stmts_of, bare, bare_expr, bare_exprs, bare_function, bare_groups, bare_slot, bare_stmt, bare_stmts, bare_target, bare_test}
+use Rattle.xs_ccheck.specs.declared.enclosing.Where.{Where}
+use Rattle.xs_ctypes.specs.Checked.{Bad, Checked, Fine, Good, Judged, Wrong, answer, behind, four, judged, unbuilt, unknown}
+use Rattle.xs_ccheck.specs.ExprTyping.{TypedExpr, TypedTarget, all_fit, as_typed, assigned, called, expr, exprs, is_cv, item_place, name_meant, option_expr, place_in, row_judged, text_in, usage, usage_of, usage_word, variable_place}
+use Rattle.xs_ccheck.specs.FileTyping.{behind_entry, code_meant, defines, entry_form, entry_line, entry_of, entry_word, function, function_done, function_from, function_judged, functions, item, sort_of, typed_of, where_in, with_entry}
+use Rattle.xs_ctypes.specs.FileNames.{FileNames, index_of, is_boot_name, is_earlier, item_name, names_of}
+use Rattle.xs_ctypes.specs.Scopes.{Local, Scope, beginning, declared_in, declarators_behind, first_behind, groups_behind, is_in_use, knowing, name_behind, new_variable, next_slot, scope_behind, scopes_behind, variable_of, with_variable}
+use Rattle.xs_ccheck.specs.StmtTyping.{TypedGroup, begun, conditional, declaration, declarator, declarators, declared, effect, first_part, for_loop, function_end, groups, groups_of, in_group, in_order, in_turn, is_given, is_test, label_number, labelled, labels, line_of_label, may_return, perl, perl_word, quits, stated, stmt, stmts, switched, test_of, typed_group, unset, unused}
+use Rattle.xs_ctypes.specs.TypeNames.{declared_type, type_named}
+use Rattle.xs_ctypes.specs.ValueTypes.{goes_into, is_condition, is_number, is_operand, result_type}
+use Rattle.xs_ccheck.proofs.Alike.{Alike, AlikeIn, seen, seen_in, fine, wrongs, by_test, judged_alike, after, after_both, after_three, more_alike, bare_typed, bare_place, same_type, same_tree, when_alike}
+use Rattle.xs_ccheck.proofs.OperatorsAlike.{cast_alike, chosen_alike, combined_alike, prefixed_alike}
 
 -- ---- variables
 
@@ -133,32 +70,6 @@ use_bare vs name = rw (found_bare vs name, some_bare (variable_of vs name)) refl
 
 -- ---- expressions
 
-abbrev bare_typed : TypedExpr → TypedExpr
-bare_typed x = as_typed (bare_expr x.tree) x.of_type
-
-abbrev bare_place : TypedTarget → TypedTarget
-bare_place p = record { target = bare_target p.target; of_type = p.of_type }
-
-same_type : (x y : TypedExpr) → bare_typed x ≡ bare_typed y → x.of_type ≡ y.of_type
-same_type x y e = ap (λ (z : TypedExpr). z.of_type) e
-
-same_tree : (x y : TypedExpr) → bare_typed x ≡ bare_typed y → bare_expr x.tree ≡ bare_expr y.tree
-same_tree x y e = ap (λ (z : TypedExpr). z.tree) e
-
-typed_alike : (f g : ValueType → Expr) (j k : Judged ValueType) → ((t : ValueType) → bare_expr (f t) ≡ bare_expr (g t)) → j ≡ k
-    → AlikeIn bare_typed (typed f j) (typed g k)
-typed_alike f g j k same e = subst (λ l. AlikeIn bare_typed (typed f j) (typed g l)) e (one j)
-  where
-    one : (l : Judged ValueType) → AlikeIn bare_typed (typed f l) (typed g l)
-    one (Fine t) = record { is = ap (λ x. Some (as_typed x t)) (same t) }
-    one (Wrong code word) = record { is = refl }
-
-when_alike : {A B : Type 0} (view : A → B) (b d : Bool) (x y : A) (code : ℕ) (word : List ℕ) → b ≡ d → view x ≡ view y
-    → AlikeIn view (cond b (Fine x) (Wrong code word)) (cond d (Fine y) (Wrong code word))
-when_alike view b d x y code word e same =
-    subst (λ t. AlikeIn view (cond b (Fine x) (Wrong code word)) (cond t (Fine y) (Wrong code word))) e
-    (by_test view b _ _ _ _ (fine view x y same) (wrongs view code code word word))
-
 meant_alike : (name : List ℕ) (o : Option Slot) → AlikeIn bare_typed (name_meant name o) (name_meant name (option_map bare_slot o))
 meant_alike name None = record { is = refl }
 meant_alike name (Some v) = record { is = refl }
@@ -166,14 +77,6 @@ meant_alike name (Some v) = record { is = refl }
 variable_alike : (name : List ℕ) (o : Option Slot) → AlikeIn bare_place (variable_place name o) (variable_place name (option_map bare_slot o))
 variable_alike name None = record { is = refl }
 variable_alike name (Some v) = record { is = refl }
-
-operated_alike : (op : Op) (x y a b : TypedExpr) → bare_typed x ≡ bare_typed y → bare_typed a ≡ bare_typed b
-    → AlikeIn bare_typed (operated op x a) (operated op y b)
-operated_alike op x y a b e g =
-    typed_alike _ _ _ _ (λ t. ap₂ (Binary op) (same_tree x y e) (same_tree a b g)) (ap₂ (of_two op) (same_type x y e) (same_type a b g))
-
-cast_alike : (to : Option ValueType) (x y : TypedExpr) → bare_typed x ≡ bare_typed y → AlikeIn bare_typed (cast to x) (cast to y)
-cast_alike to x y e = typed_alike _ _ _ _ (λ t. ap (Cast t) (same_tree x y e)) (ap (of_cast to) (same_type x y e))
 
 item_alike : (x y : TypedExpr) → bare_typed x ≡ bare_typed y → AlikeIn bare_place (item_place x) (item_place y)
 item_alike x y e =
@@ -255,7 +158,13 @@ module _ (vs : List Local) where
         (subst (λ o. AlikeIn bare_typed (name_meant name (variable_of vs name)) (name_meant name o)) (sym (found_bare vs name))
         (meant_alike name (variable_of vs name)))
     expr_alike (syntax_expr.Num line value) = record { is = refl }
+    expr_alike (syntax_expr.Chr line byte) = record { is = refl }
     expr_alike (syntax_expr.Str line text) = record { is = refl }
+    expr_alike (syntax_expr.Paren line a) =
+        after bare_typed bare_typed _ _ _ _ (expr_alike a)
+        (λ x y e. record { is = ap Some (ap₂ as_typed (ap Passed (same_tree x y e)) (same_type x y e)) })
+    expr_alike (syntax_expr.One line op a) =
+        after bare_typed bare_typed _ _ _ _ (expr_alike a) (λ x y e. judged_alike bare_typed line 0 _ _ (prefixed_alike op x y e))
     expr_alike (syntax_expr.Call line name args) =
         by_word bare_typed (bytes_eq name usage_word) _ _ _ _ (judged_alike bare_typed line 0 _ _ (usage_alike line args))
         (after (map bare_typed) bare_typed _ _ _ _ (exprs_alike args)
@@ -263,9 +172,12 @@ module _ (vs : List Local) where
     expr_alike (syntax_expr.Set line place None value) =
         after_both bare_place bare_typed bare_typed _ _ _ _ _ _ (place_in_alike place) (expr_alike value)
         (λ p q x y e g. judged_alike bare_typed line 0 _ _ (assigned_alike line p q x y e g))
-    expr_alike (syntax_expr.Two line (c.On op) a b) =
+    expr_alike (syntax_expr.Two line op a b) =
         after_both bare_typed bare_typed bare_typed _ _ _ _ _ _ (expr_alike a) (expr_alike b)
-        (λ x y z w e g. judged_alike bare_typed line 0 _ _ (operated_alike op x y z w e g))
+        (λ x y z w e g. judged_alike bare_typed line 0 _ _ (combined_alike op x y z w e g))
+    expr_alike (syntax_expr.Choice line test a b) =
+        after_three bare_typed bare_typed _ _ _ _ _ _ _ _ (expr_alike test) (expr_alike a) (expr_alike b)
+        (λ t u x y z w d e g. judged_alike bare_typed line 0 _ _ (chosen_alike line t u x y z w d e g))
     expr_alike (syntax_expr.Cast line to a) =
         after bare_typed bare_typed _ _ _ _ (expr_alike a)
         (λ x y e. judged_alike bare_typed line 0 _ _ (cast_alike (type_named to.name to.stars) x y e))

@@ -1,6 +1,6 @@
 -- What holds of a part of a file where it is good.
 use Rattle.std.proofs.Common.{ℕ, Bool, true, false, cond, List}
-use Rattle.xs_ccheck.specs.Checked.{Checked, Good, Bad, behind, both, Judged, Fine, Wrong, judged}
+use Rattle.xs_ctypes.specs.Checked.{Checked, Good, Bad, behind, both, three, Judged, Fine, Wrong, judged}
 
 abbrev pub OfGood : {A : Type 0} → (A → Type 0) → Checked A → Type 0
 OfGood P (Good a) = P a
@@ -29,6 +29,14 @@ both_good P Q R (Good a) (Bad e) k h g next = record { good = tt }
 both_good P Q R (Bad f) (Good b) k h g next = record { good = tt }
 both_good P Q R (Bad f) (Bad e) k h g next = record { good = tt }
 
+pub three_good : {A B C D : Type 0} (P : A → Type 0) (Q : B → Type 0) (R : C → Type 0) (T : D → Type 0) (r : Checked A) (s : Checked B) (t : Checked C)
+    (k : A → B → C → Checked D) → WhereGood P r → WhereGood Q s → WhereGood R t
+    → ((a : A) (b : B) (c : C) → P a → Q b → R c → WhereGood T (k a b c)) → WhereGood T (three r s t k)
+three_good {A} {B} {C} P Q R T r s t k h g i next =
+    both_good P (λ (p : B × C). Q p.0 × R p.1) T r (both {C = B × C} s t (λ b c. Good (b, c))) (λ a p. k a p.0 p.1) h
+    (both_good Q R (λ (p : B × C). Q p.0 × R p.1) s t (λ b c. Good (b, c)) g i (λ b c x y. record { good = (x, y) }))
+    (λ a p x y. next a p.0 p.1 x y.0 y.1)
+
 -- nothing is asked of a part
 pub anything : {A : Type 0} (r : Checked A) → WhereGood (λ (a : A). Unit {0}) r
 anything (Good a) = record { good = tt }
@@ -39,6 +47,10 @@ anything (Bad f) = record { good = tt }
 pub fine_by : {A : Type 0} (P : A → Type 0) (b : Bool) (j : Judged A) (code : ℕ) (word : List ℕ) → WhereFine P j → WhereFine P (cond b j (Wrong code word))
 fine_by P true j code word h = h
 fine_by P false j code word h = tt
+
+pub either_fine : {A : Type 0} (P : A → Type 0) (b : Bool) (j k : Judged A) → WhereFine P j → WhereFine P k → WhereFine P (cond b j k)
+either_fine P true j k h g = h
+either_fine P false j k h g = g
 
 pub fine_unless : {A : Type 0} (P : A → Type 0) (b : Bool) (j : Judged A) (code : ℕ) (word : List ℕ) → WhereFine P j
     → WhereFine P (cond b (Wrong code word) j)

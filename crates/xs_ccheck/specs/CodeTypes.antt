@@ -5,7 +5,8 @@ use Rattle.xs_values.specs.Kinds.{promoted}
 use Rattle.xs_values.specs.declared.kind.Kind.{Kind}
 use Rattle.xs_values.specs.declared.kind.Kind.TheVariants.{I32}
 use Rattle.xs_values.specs.declared.operator.Op.{Op}
-use Rattle.xs_values.specs.Numbers.{Number, result_kind_of}
+use Rattle.xs_values.specs.declared.unary_operator.UnOp.{UnOp}
+use Rattle.xs_values.specs.Numbers.{Number, result_kind_of, unary_kind_of}
 use Rattle.xs_perlapi.specs.declared.row.ApiType.{ApiType}
 use Rattle.xs_perlapi.specs.declared.row.Row.TheVariants.{Entry, XsReturnYes}
 use Rattle.xs_perlapi.specs.Table.{RowCall, row_named}
@@ -14,9 +15,10 @@ use Rattle.xs_ctree.specs.declared.node.Sort.TheVariants.{Helper, XsFunction, Bo
 use Rattle.xs_ctree.specs.declared.value_type.Slot.{Slot}
 use Rattle.xs_ctree.specs.declared.value_type.ValueType.{ValueType}
 use Rattle.xs_ctree.specs.declared.value_type.ValueType.TheVariants as type_of
-use Rattle.xs_ctree.specs.TypedTree.{Expr, Exprs, NoExprs, MoreExprs, Literal, Variable, ItemCount, Cast, Binary, Assign, Api, Usage, Target, ToVariable, ToItem, Test, Always, When, Stmt, Stmts, NoStmts, MoreStmts, Block, Effect, Declare, If, Loop, Switch, Break, Continue, Return, Give, Quit, Register, Groups, NoGroups, MoreGroups, SetIndex}
+use Rattle.xs_ctree.specs.TypedTree.{Expr, Exprs, NoExprs, MoreExprs, Literal, Variable, ItemCount, Passed, Cast, Not, Unary, Binary, Same, And, Or, Choice, Assign, Api, Usage, Target, ToVariable, ToItem, Test, Always, When, Stmt, Stmts, NoStmts, MoreStmts, Block, Effect, Declare, If, Loop, Switch, Break, Continue, Return, Give, Quit, Register, Groups, NoGroups, MoreGroups, SetIndex}
+use Rattle.xs_ctypes.specs.Checked.{Fine}
 use Rattle.xs_ccheck.specs.StmtTyping.{may_return}
-use Rattle.xs_ccheck.specs.ValueTypes.{casts, goes_into, is_condition, is_number, is_operand, result_type}
+use Rattle.xs_ctypes.specs.ValueTypes.{are_conditions, casts, compares, goes_into, is_condition, is_number, is_operand, of_choice, result_type}
 
 mutual
   -- an expression has a type
@@ -27,9 +29,24 @@ mutual
     item_count : HasType slots ItemCount (type_of.Number I32)
     cast : {t from : ValueType} {e : Expr} → HasType slots e from → casts from t ≡ true
         → HasType slots (Cast t e) t
+    parentheses : {e : Expr} {t : ValueType} → HasType slots e t → HasType slots (Passed e) t
+    negation : {e : Expr} {t : ValueType} → HasType slots e t → is_condition t ≡ true
+        → HasType slots (Not e) (type_of.Number I32)
+    promotion : {op : UnOp} {e : Expr} {k : Kind} → HasType slots e (type_of.Number k)
+        → HasType slots (Unary op e) (type_of.Number (unary_kind_of op k))
     operator : {op : Op} {a b : Expr} {j k : Kind} → HasType slots a (type_of.Number j)
         → HasType slots b (type_of.Number k)
         → HasType slots (Binary op a b) (type_of.Number (result_kind_of op j k))
+    comparison : {equal : Bool} {a b : Expr} {s t : ValueType} → HasType slots a s
+        → HasType slots b t → compares s t ≡ true
+        → HasType slots (Same equal a b) (type_of.Number I32)
+    conjunction : {a b : Expr} {s t : ValueType} → HasType slots a s → HasType slots b t
+        → are_conditions s t ≡ true → HasType slots (And a b) (type_of.Number I32)
+    disjunction : {a b : Expr} {s t : ValueType} → HasType slots a s → HasType slots b t
+        → are_conditions s t ≡ true → HasType slots (Or a b) (type_of.Number I32)
+    chosen : {at : ℕ} {test a b : Expr} {c s u t : ValueType} → HasType slots test c
+        → HasType slots a s → HasType slots b u → of_choice c s u ≡ Fine t
+        → HasType slots (Choice at t test a b) t
     assignment : {at : ℕ} {to : Target} {e : Expr} {t from : ValueType} → IsTarget slots to t
         → HasType slots e from → goes_into from t ≡ true → HasType slots (Assign at to e) t
     row : {at : ℕ} (name : List ℕ) {r : RowCall} {es : Exprs} → row_named name ≡ Some r

@@ -2,28 +2,32 @@
 -- for each form.
 use Rattle.std.specs.Prelude.{ℕ, pos, Bool, true, false, ◌&&◌, if◌then◌else◌, nat_eq, List, [], ◌∷◌, map, length, Option, Some, None, codes}
 use Rattle.std.specs.Str.{bytes_eq}
-use Rattle.xs_base.specs.declared.fault_codes.TheConstants.{UNKNOWN_NAME, UNKNOWN_FUNCTION, TYPES_DIFFER, WRONG_NUMBER_OF_ARGUMENTS, NOT_ASSIGNABLE, WORD_NOT_ALLOWED}
+use Rattle.xs_base.specs.declared.fault_codes.TheConstants.{UNKNOWN_NAME, UNKNOWN_FUNCTION, TYPES_DIFFER, WRONG_NUMBER_OF_ARGUMENTS, NOT_ASSIGNABLE}
 use Rattle.xs_values.specs.declared.kind.Kind.{Kind}
-use Rattle.xs_values.specs.declared.kind.Kind.TheVariants.{I32}
+use Rattle.xs_values.specs.declared.kind.Kind.TheVariants.{I8, I32}
 use Rattle.xs_values.specs.declared.literal.Base.{Base}
 use Rattle.xs_values.specs.declared.literal.Suffix.{Suffix}
 use Rattle.xs_values.specs.declared.model.DataModel.TheVariants.{Lp64}
 use Rattle.xs_values.specs.declared.operator.Op.{Op}
+use Rattle.xs_values.specs.declared.operator.Op.TheVariants.{Equal}
+use Rattle.xs_values.specs.declared.unary_operator.UnOp.{UnOp}
+use Rattle.xs_values.specs.declared.unary_operator.UnOp.TheVariants as unary
 use Rattle.xs_values.specs.Literals.{literal_kind_of}
 use Rattle.xs_values.specs.Numbers.{wrapped}
+use Rattle.xs_cinput.specs.declared.tree.BinaryOp.{BinaryOp}
 use Rattle.xs_cinput.specs.declared.tree.BinaryOp.TheVariants as c
 use Rattle.xs_cexpr.specs.ExpressionTree as syntax
 use Rattle.xs_cexpr.specs.ExpressionTree.{ExprTree, ExprTrees, PlaceTree, VarPlace, TargetPlace, FieldPlace, StPlace}
 use Rattle.xs_perlapi.specs.declared.row.ApiType.{ApiType}
-use Rattle.xs_perlapi.specs.Table.{RowCall, is_interface_word, row_named}
+use Rattle.xs_perlapi.specs.Table.{RowCall, row_named}
 use Rattle.xs_ctree.specs.declared.value_type.Slot.{Slot}
 use Rattle.xs_ctree.specs.declared.value_type.ValueType.{ValueType}
 use Rattle.xs_ctree.specs.declared.value_type.ValueType.TheVariants as type_of
-use Rattle.xs_ctree.specs.TypedTree.{Expr, Literal, Variable, ItemCount, Cast, Binary, Assign, Api, Usage, Target, ToVariable, ToItem, exprs_of}
-use Rattle.xs_ccheck.specs.Checked.{Checked, Good, behind, both, more, Judged, Fine, Wrong, judged, when, unbuilt}
-use Rattle.xs_ccheck.specs.Scopes.{Local, variable_of}
-use Rattle.xs_ccheck.specs.TypeNames.{type_named}
-use Rattle.xs_ccheck.specs.ValueTypes.{differ, goes_into, is_number, is_operand, of_cast, of_two, result_type}
+use Rattle.xs_ctree.specs.TypedTree.{Expr, Literal, Variable, ItemCount, Passed, Cast, Not, Unary, Binary, Same, And, Or, Choice, Assign, Api, Usage, Target, ToVariable, ToItem, exprs_of}
+use Rattle.xs_ctypes.specs.Checked.{Checked, Fine, Good, Judged, Wrong, behind, both, judged, more, three, unbuilt, unknown, when}
+use Rattle.xs_ctypes.specs.Scopes.{Local, variable_of}
+use Rattle.xs_ctypes.specs.TypeNames.{type_named}
+use Rattle.xs_ctypes.specs.ValueTypes.{are_conditions, are_numbers, compares, differ, goes_into, is_condition, is_equality, is_number, is_operand, of_cast, of_choice, of_numbers, of_promoted, result_type}
 
 -- an expression with its type
 pub record TypedExpr : Type 0 where
@@ -45,13 +49,6 @@ typed e (Wrong code word) = Wrong code word
 
 -- ---- names and literals
 
--- a name that means nothing where it stands: the code is that of a word without meaning anywhere
-abbrev pub unknown_code : ℕ → List ℕ → ℕ
-unknown_code code name = if is_interface_word name then WORD_NOT_ALLOWED else code
-
-abbrev pub unknown : {A : Type 0} → ℕ → List ℕ → Judged A
-unknown code name = Wrong (unknown_code code name) name
-
 -- a name that is no variable
 abbrev pub other_name : List ℕ → Judged TypedExpr
 other_name name =
@@ -69,10 +66,60 @@ number kind n = as_typed (Literal (wrapped kind (pos n))) (type_of.Number kind)
 abbrev pub literal : Base → Suffix → ℕ → TypedExpr
 literal base suffix n = number (literal_kind_of Lp64 base suffix n) n
 
+-- a character, a `char` that is promoted
+abbrev pub character : ℕ → TypedExpr
+character byte =
+    as_typed (Literal (wrapped I32 (wrapped I8 (pos byte)).value)) (type_of.Number I32)
+
 -- ---- operators, casts and assignments
 
+-- an expression in parentheses
+abbrev pub passed : TypedExpr → TypedExpr
+passed x = as_typed (Passed x.tree) x.of_type
+
+-- a truth, where a test holds
+abbrev pub truth : Bool → Expr → Judged TypedExpr
+truth test e = when test (as_typed e (type_of.Number I32)) TYPES_DIFFER []
+
+-- an operand that is promoted
+abbrev pub promoting : UnOp → TypedExpr → Judged TypedExpr
+promoting op x = typed (λ t. Unary op x.tree) (of_promoted op x.of_type)
+
+-- an operand behind an operator
+abbrev pub prefixed : UnOp → TypedExpr → Judged TypedExpr
+prefixed unary.Not x = truth (is_condition x.of_type) (Not x.tree)
+prefixed unary.Plus x = promoting unary.Plus x
+prefixed unary.Minus x = promoting unary.Minus x
+prefixed unary.Complement x = promoting unary.Complement x
+
+-- two numbers under an operator
+abbrev pub calculated : Op → TypedExpr → TypedExpr → Judged TypedExpr
+calculated op x y = typed (λ t. Binary op x.tree y.tree) (of_numbers op x.of_type y.of_type)
+
+abbrev pub is_equal : Op → Bool
+is_equal Equal = true
+is_equal _ = false
+
+-- two pointers under `==` or `!=`
+abbrev pub compared : Op → TypedExpr → TypedExpr → Judged TypedExpr
+compared op x y =
+    truth (compares x.of_type y.of_type && is_equality op) (Same (is_equal op) x.tree y.tree)
+
 abbrev pub operated : Op → TypedExpr → TypedExpr → Judged TypedExpr
-operated op x y = typed (λ t. Binary op x.tree y.tree) (of_two op x.of_type y.of_type)
+operated op x y =
+    if are_numbers x.of_type y.of_type then calculated op x y else compared op x y
+
+-- two operands with an operator between them
+abbrev pub combined : BinaryOp → TypedExpr → TypedExpr → Judged TypedExpr
+combined (c.On op) x y = operated op x y
+combined c.Or x y = truth (are_conditions x.of_type y.of_type) (Or x.tree y.tree)
+combined c.And x y = truth (are_conditions x.of_type y.of_type) (And x.tree y.tree)
+
+-- a choice of two values by a condition, with the type of its value
+abbrev pub chosen : ℕ → TypedExpr → TypedExpr → TypedExpr → Judged TypedExpr
+chosen line test x y =
+    typed (λ t. Choice line t test.tree x.tree y.tree)
+    (of_choice test.of_type x.of_type y.of_type)
 
 abbrev pub cast : Option ValueType → TypedExpr → Judged TypedExpr
 cast to x = typed (λ t. Cast t x.tree) (of_cast to x.of_type)
@@ -153,30 +200,29 @@ module _ (variables : List Local) where
     pub expr : ExprTree → Checked TypedExpr
     expr (syntax.Var line name) = judged line (name_meant name (variable_of variables name))
     expr (syntax.Num line value) = Good (literal value.base value.suffix value.value)
+    expr (syntax.Chr line byte) = Good (character byte)
     expr (syntax.Str line text) = judged line differ
+    expr (syntax.Paren line a) = behind (expr a) (λ x. Good (passed x))
+    expr (syntax.One line op a) = behind (expr a) (λ x. judged line (prefixed op x))
     expr (syntax.Call line name args) =
         if bytes_eq name usage_word then judged line (usage line args)
         else behind (exprs args) (λ xs. judged line (called line name (row_named name) xs))
     expr (syntax.Set line place None value) =
         both (place_in place) (expr value) (λ to x. judged line (assigned line to x))
-    expr (syntax.Two line (c.On op) a b) =
-        both (expr a) (expr b) (λ x y. judged line (operated op x y))
+    expr (syntax.Two line op a b) =
+        both (expr a) (expr b) (λ x y. judged line (combined op x y))
+    expr (syntax.Choice line test a b) =
+        three (expr test) (expr a) (expr b) (λ t x y. judged line (chosen line t x y))
     expr (syntax.Cast line to a) =
         behind (expr a) (λ x. judged line (cast (type_named to.name to.stars) x))
     -- not built yet
-    expr (syntax.Chr line byte) = judged line unbuilt
-    expr (syntax.Paren line a) = judged line unbuilt
     expr (syntax.Int2Ptr line to a) = judged line unbuilt
     expr (syntax.Index line a at) = judged line unbuilt
     expr (syntax.Arrow line name field) = judged line unbuilt
-    expr (syntax.One line o a) = judged line unbuilt
     expr (syntax.Deref line a) = judged line unbuilt
     expr (syntax.Address line name) = judged line unbuilt
     expr (syntax.Before line step place) = judged line unbuilt
     expr (syntax.After line place step) = judged line unbuilt
-    expr (syntax.Two line c.Or a b) = judged line unbuilt
-    expr (syntax.Two line c.And a b) = judged line unbuilt
-    expr (syntax.Choice line test a b) = judged line unbuilt
     expr (syntax.Set line place (Some o) value) = judged line unbuilt
 
     pub exprs : ExprTrees → Checked (List TypedExpr)

@@ -6,7 +6,6 @@ use Rattle.std.specs.Option.{option_map}
 use Rattle.std.specs.Str.{bytes_eq}
 use Rattle.xs_base.specs.declared.fault.Fault.{Fault}
 use Rattle.xs_base.specs.declared.fault_codes.TheConstants.{TYPES_DIFFER, DECLARED_TWICE, WORD_NOT_ALLOWED, NOT_BUILT}
-use Rattle.xs_cinput.specs.declared.tree.BinaryOp.TheVariants as c
 use Rattle.xs_cexpr.specs.ExpressionTree as syntax
 use Rattle.xs_cexpr.specs.ExpressionTree.{ExprTree, ExprTrees, PlaceTree, VarPlace, StPlace}
 use Rattle.xs_cstmt.specs.StatementTree as statement
@@ -15,15 +14,16 @@ use Rattle.xs_cstmt.specs.declared.tree.Label.{Label}
 use Rattle.xs_csyn.specs.declared.tree.Define.{Define}
 use Rattle.xs_csyn.specs.FileTree.{XsFunTree, ItemTree, TypedefItem, RecordItem, PrototypeItem, FunctionItem, XsFunItem, FileTree}
 use Rattle.xs_csyn.specs.Grammar.{line_of, line_of_place}
-use Rattle.xs_ccheck.specs.declared.names.Where.{Where}
-use Rattle.xs_ccheck.specs.Checked.{Judged, Fine, Wrong, fault}
+use Rattle.xs_ccheck.specs.declared.enclosing.Where.{Where}
+use Rattle.xs_ctypes.specs.Checked.{Judged, Fine, Wrong, fault}
 use Rattle.xs_ccheck.specs.ExprTyping.{usage_word}
-use Rattle.xs_ccheck.specs.FileTyping.{behind_entry, entry_of, is_earlier, names_of, where_in}
+use Rattle.xs_ccheck.specs.FileTyping.{behind_entry, entry_of, where_in}
+use Rattle.xs_ctypes.specs.FileNames.{FileNames, index_of, is_earlier, names_of}
 use Rattle.xs_ccheck.specs.FormTypes.{expr_rule, expr_type, place_rule}
-use Rattle.xs_ccheck.specs.Scopes.{Local, Scope, beginning, first_behind, name_behind, scope_behind, scopes_behind}
-use Rattle.xs_ccheck.specs.StmtTyping.{FileNames, declared, in_group, in_turn, index_of, is_test, label_number, line_of_label, may_return, perl}
-use Rattle.xs_ccheck.specs.TypeNames.{type_named}
-use Rattle.xs_ccheck.specs.ValueTypes.{is_condition, is_number}
+use Rattle.xs_ctypes.specs.Scopes.{Local, Scope, beginning, first_behind, name_behind, scope_behind, scopes_behind}
+use Rattle.xs_ccheck.specs.StmtTyping.{declared, in_group, in_turn, is_test, label_number, line_of_label, may_return, perl}
+use Rattle.xs_ctypes.specs.TypeNames.{type_named}
+use Rattle.xs_ctypes.specs.ValueTypes.{is_condition, is_number}
 
 -- ---- nodes
 
@@ -98,8 +98,12 @@ parts_of_expr variables (syntax.Call line name args) =
     if bytes_eq name usage_word then [] else exprs_at variables args
 parts_of_expr variables (syntax.Set line place None value) =
     APlace variables place ∷ AnExpr variables value ∷ []
-parts_of_expr variables (syntax.Two line (c.On op) a b) =
+parts_of_expr variables (syntax.Paren line a) = AnExpr variables a ∷ []
+parts_of_expr variables (syntax.One line op a) = AnExpr variables a ∷ []
+parts_of_expr variables (syntax.Two line op a b) =
     AnExpr variables a ∷ AnExpr variables b ∷ []
+parts_of_expr variables (syntax.Choice line test a b) =
+    AnExpr variables test ∷ AnExpr variables a ∷ AnExpr variables b ∷ []
 parts_of_expr variables (syntax.Cast line to a) = AnExpr variables a ∷ []
 parts_of_expr variables _ = []
 

@@ -1,6 +1,5 @@
 -- The code that a file means: its functions in the order of the text.
-use Rattle.std.specs.Prelude.{ℕ, ◌+◌, Bool, false, if◌then◌else◌, nat_eq, nat_lt, List, [], ◌∷◌, map, Option, Some, None, Result, codes}
-use Rattle.std.specs.List.{starts_with}
+use Rattle.std.specs.Prelude.{ℕ, ◌+◌, Bool, false, if◌then◌else◌, List, [], ◌∷◌, Option, Some, None, Result}
 use Rattle.xs_base.specs.declared.fault.Fault.{Fault}
 use Rattle.xs_base.specs.declared.fault_codes.TheConstants.{DECLARED_TWICE}
 use Rattle.xs_cstmt.specs.StatementTree as syntax
@@ -16,10 +15,11 @@ use Rattle.xs_ctree.specs.declared.node.Sort.{Sort}
 use Rattle.xs_ctree.specs.declared.node.Sort.TheVariants.{XsFunction, Boot}
 use Rattle.xs_ctree.specs.declared.value_type.ValueType.TheVariants as type_of
 use Rattle.xs_ctree.specs.TypedTree.{Api, NoExprs, Stmt, Block, Effect, Function, Code, stmts_of}
-use Rattle.xs_ccheck.specs.declared.names.Where.{Where}
-use Rattle.xs_ccheck.specs.Checked.{Checked, Good, answer, behind, both, more, Judged, Fine, Wrong, judged, unbuilt}
-use Rattle.xs_ccheck.specs.Scopes.{Scope, beginning, declared_in, scopes_behind}
-use Rattle.xs_ccheck.specs.StmtTyping.{FileNames, index_of, stmts}
+use Rattle.xs_ccheck.specs.declared.enclosing.Where.{Where}
+use Rattle.xs_ctypes.specs.Checked.{Checked, Good, answer, behind, both, more, Judged, Fine, Wrong, judged, unbuilt}
+use Rattle.xs_ctypes.specs.Scopes.{Scope, beginning, declared_in, scopes_behind}
+use Rattle.xs_ccheck.specs.StmtTyping.{stmts}
+use Rattle.xs_ctypes.specs.FileNames.{FileNames, index_of, is_boot_name, is_earlier, names_of}
 
 -- ---- the front of a function
 
@@ -54,13 +54,6 @@ with_entry (Some line) ts = Effect (Api line Entry NoExprs) ∷ ts
 
 -- ---- functions
 
-abbrev pub boot_begin : List ℕ
-boot_begin = codes "boot_"
-
--- whether a function of this name is the boot function
-unfoldable pub is_boot_name : List ℕ → Bool
-is_boot_name name = starts_with nat_eq name boot_begin
-
 abbrev pub sort_of : Bool → Sort
 sort_of is_boot = if is_boot then Boot else XsFunction
 
@@ -84,19 +77,6 @@ function_done name is_boot inner ts = record {
   slots = inner.slots;
   body = Block (declared_in beginning inner) (stmts_of ts);
 }
-
--- whether an index is there and below another
-abbrev pub is_earlier : Option ℕ → ℕ → Bool
-is_earlier None at = false
-is_earlier (Some index) at = nat_lt index at
-
--- the name of an XS function; no other item is registered by its name
-abbrev pub item_name : ItemTree → List ℕ
-item_name (XsFunItem f) = f.name
-item_name _ = []
-
-abbrev pub names_of : List ItemTree → FileNames
-names_of items = record { functions = map item_name items }
 
 module _ (names : FileNames) where
   -- no function before the one at an index has its name

@@ -7,6 +7,7 @@ use Rattle.xs_base.specs.declared.fault_codes.TheConstants.{UNKNOWN_NAME, UNKNOW
 use Rattle.xs_values.specs.declared.kind.Kind.TheVariants.{I32}
 use Rattle.xs_values.specs.declared.model.DataModel.TheVariants.{Lp64}
 use Rattle.xs_values.specs.Literals.{literal_kind_of}
+use Rattle.xs_cinput.specs.declared.tree.BinaryOp.{BinaryOp}
 use Rattle.xs_cinput.specs.declared.tree.BinaryOp.TheVariants as c
 use Rattle.xs_cexpr.specs.ExpressionTree as syntax
 use Rattle.xs_cexpr.specs.ExpressionTree.{ExprTree, ExprTrees, PlaceTree, VarPlace, StPlace}
@@ -15,11 +16,11 @@ use Rattle.xs_perlapi.specs.Table.{RowCall, row_named}
 use Rattle.xs_ctree.specs.declared.value_type.Slot.{Slot}
 use Rattle.xs_ctree.specs.declared.value_type.ValueType.{ValueType}
 use Rattle.xs_ctree.specs.declared.value_type.ValueType.TheVariants as type_of
-use Rattle.xs_ccheck.specs.Checked.{Judged, Fine, Wrong, when, unbuilt}
-use Rattle.xs_ccheck.specs.ExprTyping.{is_cv, text_in, unknown, usage_word}
-use Rattle.xs_ccheck.specs.Scopes.{Local, variable_of}
-use Rattle.xs_ccheck.specs.TypeNames.{type_named}
-use Rattle.xs_ccheck.specs.ValueTypes.{differ, goes_into, is_number, is_operand, of_cast, of_two, result_type}
+use Rattle.xs_ctypes.specs.Checked.{Fine, Judged, Wrong, unbuilt, unknown, when}
+use Rattle.xs_ccheck.specs.ExprTyping.{is_cv, text_in, usage_word}
+use Rattle.xs_ctypes.specs.Scopes.{Local, variable_of}
+use Rattle.xs_ctypes.specs.TypeNames.{type_named}
+use Rattle.xs_ctypes.specs.ValueTypes.{are_conditions, differ, goes_into, is_number, is_operand, of_cast, of_choice, of_one, of_truth, of_two, result_type}
 
 -- the type that a rule gives
 abbrev pub type_by : Judged ValueType → ValueType
@@ -47,6 +48,12 @@ item_type at = when (is_number at) type_of.Scalar TYPES_DIFFER []
 -- an assignment has the type of what is assigned to
 abbrev pub set_type : ValueType → ValueType → Judged ValueType
 set_type to from = when (goes_into from to) to TYPES_DIFFER []
+
+-- two operands with an operator between them
+abbrev pub combined_type : BinaryOp → ValueType → ValueType → Judged ValueType
+combined_type (c.On op) a b = of_two op a b
+combined_type c.Or a b = of_truth (are_conditions a b)
+combined_type c.And a b = of_truth (are_conditions a b)
 
 -- whether operands of these types are those that a row takes
 abbrev pub fit : List ApiType → List ValueType → Bool
@@ -77,14 +84,20 @@ module _ (variables : List Local) where
     expr_rule (syntax.Var line name) = name_type name (variable_of variables name)
     expr_rule (syntax.Num line n) =
         Fine (type_of.Number (literal_kind_of Lp64 n.base n.suffix n.value))
+    -- a character is an int
+    expr_rule (syntax.Chr line byte) = Fine (type_of.Number I32)
     expr_rule (syntax.Str line text) = differ
+    expr_rule (syntax.Paren line a) = Fine (type_by (expr_rule a))
+    expr_rule (syntax.One line op a) = of_one op (type_by (expr_rule a))
     expr_rule (syntax.Call line name args) =
         if bytes_eq name usage_word then usage_type args
         else call_type name (row_named name) (expr_types args)
     expr_rule (syntax.Set line place None value) =
         set_type (type_by (place_rule place)) (type_by (expr_rule value))
-    expr_rule (syntax.Two line (c.On op) a b) =
-        of_two op (type_by (expr_rule a)) (type_by (expr_rule b))
+    expr_rule (syntax.Two line op a b) =
+        combined_type op (type_by (expr_rule a)) (type_by (expr_rule b))
+    expr_rule (syntax.Choice line test a b) =
+        of_choice (type_by (expr_rule test)) (type_by (expr_rule a)) (type_by (expr_rule b))
     expr_rule (syntax.Cast line to a) =
         of_cast (type_named to.name to.stars) (type_by (expr_rule a))
     -- not built yet

@@ -1,8 +1,3 @@
-pub mod Checked
-pub mod Joining
-pub mod ValueTypes
-pub mod TypeNames
-pub mod Scopes
 pub mod ExprTyping
 pub mod StmtTyping
 pub mod FileTyping

@@ -2,15 +2,11 @@
 -- the definition, or the fault that it tells.
 use Rattle.std.specs.Prelude.{◌≡◌, ℕ, true, List, [], ◌∷◌, ◌++◌, length, map, Option, None, Some, Result, Ok, Err}
 use Rattle.std.specs.List.{list_all}
-use Rattle.std.specs.Map.{lookup}
 use Rattle.std.specs.Option.{option_map}
-use Rattle.std.specs.Str.{bytes_eq}
 use Rattle.std.specs.declared.alloc.Global.{Global}
 use Rattle.std.specs.declared.vec.Vec.{Vec}
 use Rattle.xs_base.specs.declared.fault.Refuse.{Refuse}
 use Rattle.xs_base.specs.declared.fault.Refuse.TheVariants as refuse
-use Rattle.xs_csyn.specs.declared.tree.FileItem.{FileItem}
-use Rattle.xs_csyn.specs.FileViews.{item_tree}
 use Rattle.xs_values.specs.Numbers.{Number}
 use Rattle.xs_ctree.specs.declared.node.Group.{Group}
 use Rattle.xs_ctree.specs.declared.typed.Typed.{Typed}
@@ -22,10 +18,9 @@ use Rattle.xs_ctree.specs.declared.value_type.ValueType.{ValueType}
 use Rattle.xs_ctree.specs.TypedTree.{Block, Function, Stmt, stmts_of}
 use Rattle.xs_ccheck.specs.declared.exprs.TypedNode.{TypedNode}
 use Rattle.xs_ccheck.specs.declared.exprs.PlaceNode.{PlaceNode}
-use Rattle.xs_ccheck.specs.Checked.{Checked, Good, Bad, judged}
+use Rattle.xs_ctypes.specs.Checked.{Checked, Good, Bad, judged}
 use Rattle.xs_ccheck.specs.ExprTyping.{TypedExpr, TypedTarget}
-use Rattle.xs_ccheck.specs.FileTyping.{names_of}
-use Rattle.xs_ccheck.specs.StmtTyping.{FileNames, TypedGroup, for_loop, index_of, typed_group}
+use Rattle.xs_ccheck.specs.StmtTyping.{TypedGroup, for_loop, typed_group}
 
 -- A call refuses with the fault that the definition tells, or where memory runs out.
 abbrev pub Refuses : {A : Type 0} → Refuse → Checked A → Type 0
@@ -214,19 +209,3 @@ GivesFunction (Err e) old new read = Refuses e read
 abbrev pub GivesFunctions : Result Typed Refuse → Checked (List Function) → Type 0
 GivesFunctions (Ok t) read = (read ≡ Good (functions_in t)) × (records_in t ≡ [])
 GivesFunctions (Err e) read = Refuses e read
-
--- the names of a file
-abbrev pub names_in : List FileItem → FileNames
-names_in items = names_of (map item_tree items)
-
--- ---- names
-
--- each name is held with the index at which it stands first
-abbrev pub FindsFirst : List (List ℕ) → List (Vec ℕ Global × ℕ) → Type 0
-FindsFirst names held = (name : List ℕ)
-    → lookup (λ (key : Vec ℕ Global). bytes_eq name key.items) held ≡ index_of names name
-
--- what holds each name with its first index does so still where a name stands behind the others
-abbrev pub AddsName : List ℕ → ℕ → List (Vec ℕ Global × ℕ) → List (Vec ℕ Global × ℕ) → Type 0
-AddsName name at old new = (names : List (List ℕ)) → length names ≡ at → FindsFirst names old
-    → FindsFirst (names ++ name ∷ []) new

@@ -3,7 +3,6 @@
 -- that order.
 use Rattle.std.specs.Prelude.{◌≡◌, ℕ, ◌+◌, true, false, if◌then◌else◌, List, [], ◌∷◌, ◌++◌, map, Option, Some, None, slice_get}
 use Rattle.std.specs.Str.{bytes_eq}
-use Rattle.xs_cinput.specs.declared.tree.BinaryOp.TheVariants as c
 use Rattle.xs_cexpr.specs.ExpressionTree as syntax
 use Rattle.xs_cexpr.specs.ExpressionTree.{ExprTree, ExprTrees, PlaceTree, VarPlace, StPlace}
 use Rattle.xs_cstmt.specs.StatementTree as statement
@@ -181,7 +180,11 @@ module _ (names : List Named) where
         if bytes_eq name usage_word then [] else meant_in_exprs args
     meant_in_expr (syntax.Set line place None value) =
         meant_in_place place ++ meant_in_expr value
-    meant_in_expr (syntax.Two line (c.On op) a b) = meant_in_expr a ++ meant_in_expr b
+    meant_in_expr (syntax.Paren line a) = meant_in_expr a
+    meant_in_expr (syntax.One line op a) = meant_in_expr a
+    meant_in_expr (syntax.Two line op a b) = meant_in_expr a ++ meant_in_expr b
+    meant_in_expr (syntax.Choice line test a b) =
+        meant_in_expr test ++ (meant_in_expr a ++ meant_in_expr b)
     meant_in_expr (syntax.Cast line to a) = meant_in_expr a
     meant_in_expr _ = []
 

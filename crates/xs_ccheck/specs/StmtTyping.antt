@@ -1,7 +1,6 @@
 -- What a statement is where it stands. The scope of each part is a function of the syntax before
 -- it.
 use Rattle.std.specs.Prelude.{ℕ, Bool, true, false, ◌||◌, if◌then◌else◌, List, [], ◌∷◌, length, Option, Some, None, codes, pos}
-use Rattle.std.specs.List.{position_from}
 use Rattle.std.specs.Option.{is_none, is_some, option_map}
 use Rattle.std.specs.Str.{bytes_eq}
 use Rattle.xs_base.specs.declared.fault_codes.TheConstants.{UNKNOWN_FUNCTION, TYPES_DIFFER, DECLARED_TWICE, WORD_NOT_ALLOWED, UNKNOWN_NAME}
@@ -23,16 +22,13 @@ use Rattle.xs_ctree.specs.declared.value_type.Slot.{Slot}
 use Rattle.xs_ctree.specs.declared.value_type.ValueType.{ValueType}
 use Rattle.xs_ctree.specs.declared.value_type.ValueType.TheVariants as type_of
 use Rattle.xs_ctree.specs.TypedTree.{Expr, Literal, Assign, Api, Usage, NoExprs, ToVariable, Test, Always, When, Stmt, Block, Effect, Declare, If, Loop, Switch, Break, Continue, Return, Give, Quit, Register, Groups, NoGroups, MoreGroups, nothing, stmts_of, SetIndex}
-use Rattle.xs_ccheck.specs.declared.names.Where.{Where}
-use Rattle.xs_ccheck.specs.Checked.{Checked, Good, behind, both, three, four, more, Judged, Fine, Wrong, judged, when, unbuilt}
-use Rattle.xs_ccheck.specs.ExprTyping.{TypedExpr, expr, literal, name_meant, option_expr, unknown}
-use Rattle.xs_ccheck.specs.Scopes.{Local, Scope, declared_in, first_behind, is_in_use, name_behind, scope_behind, scopes_behind, variable_of}
-use Rattle.xs_ccheck.specs.TypeNames.{type_named}
-use Rattle.xs_ccheck.specs.ValueTypes.{differ, goes_into, is_condition}
-
--- the names that a file gives a meaning: those of its XS functions, in its items' order
-pub record FileNames : Type 0 where
-  pub functions : List (List ℕ)
+use Rattle.xs_ccheck.specs.declared.enclosing.Where.{Where}
+use Rattle.xs_ctypes.specs.Checked.{Checked, Fine, Good, Judged, Wrong, behind, both, four, judged, more, three, unbuilt, unknown, when}
+use Rattle.xs_ccheck.specs.ExprTyping.{TypedExpr, expr, literal, name_meant, option_expr}
+use Rattle.xs_ctypes.specs.Scopes.{Local, Scope, declared_in, first_behind, is_in_use, name_behind, scope_behind, scopes_behind, variable_of}
+use Rattle.xs_ctypes.specs.TypeNames.{type_named}
+use Rattle.xs_ctypes.specs.ValueTypes.{differ, goes_into, is_condition}
+use Rattle.xs_ctypes.specs.FileNames.{FileNames, index_of}
 
 -- ---- expressions as statements
 
@@ -223,13 +219,6 @@ switched line (type_of.Number kind) e gs = Fine (Switch line (promoted kind) e (
 switched line _ e gs = differ
 
 -- ---- the XS interface
-
--- the index of a name among the names of a file's functions
-abbrev pub index_from : ℕ → List (List ℕ) → List ℕ → Option ℕ
-index_from i names name = position_from (λ n. bytes_eq n name) i names
-
-unfoldable pub index_of : List (List ℕ) → List ℕ → Option ℕ
-index_of names name = index_from 0 names name
 
 -- dXSARGS stands at the front of a function alone
 abbrev pub perl_word : ℕ → PerlWord → Judged Stmt

@@ -4,19 +4,18 @@ ghost use Rattle.std.specs.Option.{option_copied};
 ghost use Rattle.xs_cexpr.specs.ExpressionTree.{exprs_of};
 ghost use Rattle.xs_cexpr.specs.ExpressionViews.{expr_tree};
 ghost use Rattle.xs_perlapi.specs.Table.{signature_view};
-ghost use Rattle.xs_ccheck.specs.Checked.{judged};
+ghost use Rattle.xs_ctypes.specs.Checked.{judged};
 ghost use Rattle.xs_ccheck.specs.ExprTyping as spec;
 ghost use Rattle.xs_ccheck.specs.Resolving.{GivesExpr, HaveTyped, all_typed_in, nodes_of};
 ghost use Rattle.xs_ctree.specs.declared.typed.Typed.{Typed};
 
 use crate::exprs::TypedNode;
-use crate::faults::{is, types_differ, unknown, worded};
-use crate::value_types::{is_operand, result_type};
 use std::alloc::Global;
 use xs_base::fault_codes::{UNKNOWN_FUNCTION, WRONG_NUMBER_OF_ARGUMENTS};
 use xs_base::{Bytes, Memory, Refuse};
 use xs_csyn::Expr;
 use xs_ctree::{Typed, ValueType};
+use xs_ctypes::{is, is_operand, result_type, types_differ, unknown, worded};
 use xs_perlapi::{ApiType, Signature};
 
 // Whether operands have the types that are wanted.

@@ -5,23 +5,19 @@ ghost use Rattle.xs_cstmt.specs.StatementViews.{declared_tree, declarator_tree};
 ghost use Rattle.xs_ctree.specs.Functions.{expr_in};
 ghost use Rattle.xs_ctree.specs.Growth.{HasExpr};
 ghost use Rattle.xs_ctree.specs.declared.typed.Typed.{Typed};
-ghost use Rattle.xs_ccheck.specs.Checked.{Good, judged};
+ghost use Rattle.xs_ctypes.specs.Checked.{Good, judged};
 ghost use Rattle.xs_ccheck.specs.Resolving.{GivesStmt, GivesStmts, GivesType, HaveStmts, UnlessMemory, all_stmts_in};
-ghost use Rattle.xs_ccheck.specs.Scopes as scopes;
+ghost use Rattle.xs_ctypes.specs.Scopes as scopes;
 ghost use Rattle.xs_ccheck.specs.StmtTyping as spec;
 
-use crate::checked::{settled, take_up};
 use crate::exprs::expr;
-use crate::faults::{types_differ, worded};
-use crate::names::type_named;
-use crate::scopes::Scope;
 use crate::stmt_nodes::{block, done, nothing, pair};
-use crate::value_types::goes_into;
 use std::alloc::Global;
 use xs_base::fault_codes::DECLARED_TWICE;
 use xs_base::{Bytes, Memory, Refuse};
 use xs_csyn::{Declarator, Declared, Expr};
 use xs_ctree::{ExprNode, StmtNode, TargetNode, Typed, ValueType};
+use xs_ctypes::{Scope, goes_into, settled, take_up, type_named, types_differ, worded};
 
 // Whether a first value of a type, where there is one, goes into a variable of a type.
 fn is_given(given: Option<ValueType>, t: ValueType) -> bool

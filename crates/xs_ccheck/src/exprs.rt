@@ -1,29 +1,28 @@
 //! Expressions: names become slots, and types are checked.
 ghost use Rattle.std.specs.Prelude.{◌≡◌, Ok, Some, length, map, option_map, true, []};
-ghost use Rattle.xs_cexpr.specs.ExpressionTree.{Call, Set, Two, exprs_of};
+ghost use Rattle.xs_cexpr.specs.ExpressionTree.{Call, Choice, Set, Two, exprs_of};
 ghost use Rattle.xs_cexpr.specs.ExpressionViews.{expr_tree, place_tree};
 ghost use Rattle.xs_ctree.specs.Arena.{expr_fits, expr_from};
 ghost use Rattle.xs_ctree.specs.Functions.{arena_of, expr_in};
 ghost use Rattle.xs_ctree.specs.Growth.{HasExpr};
 ghost use Rattle.xs_ctree.specs.declared.typed.Typed.{Typed};
-ghost use Rattle.xs_ccheck.specs.Checked.{Good, judged};
+ghost use Rattle.xs_ctypes.specs.Checked.{Good, judged};
 ghost use Rattle.xs_ccheck.specs.ExprTyping as spec;
 ghost use Rattle.xs_ccheck.specs.Resolving.{GivesExpr, GivesExprs, GivesTarget, HasTarget, HasTyped, target_in, typed_in};
-ghost use Rattle.xs_ccheck.specs.ValueTypes as types;
 
 use crate::calls::{called, usage};
-use crate::checked::{both, settled, take_up};
-use crate::faults::{is, not_built, types_differ, unknown};
-use crate::names::type_named;
-use crate::scopes::Scope;
-use crate::value_types::{casts, goes_into, is_number};
+use crate::operators::{cast, chosen, combined, passed, prefixed};
 use std::alloc::Global;
 use xs_base::fault_codes::{NOT_ASSIGNABLE, UNKNOWN_NAME};
 use xs_base::{Bytes, Fault, FileOf, Refuse};
 use xs_csyn::{BinaryOp, Expr, Place};
 use xs_ctree::{ExprNode, Slot, TargetNode, Typed, ValueType};
+use xs_ctypes::{
+    Scope, both, goes_into, is, is_number, not_built, settled, take_up, type_named, types_differ,
+    unknown,
+};
 use xs_perlapi::row_named;
-use xs_values::{Base, DataModel, Kind, Op, Suffix, literal_kind, result_kind, wrap};
+use xs_values::{Base, DataModel, Kind, Op, Suffix, literal_kind, wrap};
 
 /// The node of an expression, with its type.
 #[derive(Clone, Copy, Debug)]
@@ -42,7 +41,11 @@ pub struct PlaceNode {
 // ---- single nodes
 
 // A node whose parts are there, as an expression.
-fn typed_as(typed: &mut Typed, node: ExprNode, of_type: ValueType) -> Result<TypedNode, Refuse>
+pub(crate) fn typed_as(
+    typed: &mut Typed,
+    node: ExprNode,
+    of_type: ValueType,
+) -> Result<TypedNode, Refuse>
     requires { expr_fits (arena_of typed.old) (length typed.old.exprs.items) node ≡ true }
     ensures { GivesExpr result typed.old typed.new
         (Good (spec.as_typed (expr_from (arena_of typed.old) (Some node) (expr_in typed.old))
@@ -68,6 +71,19 @@ fn literal(typed: &mut Typed, base: Base, suffix: Suffix, value: u64) -> Result<
     number(typed, kind, value)
 }
 
+// A character, a `char` that is promoted.
+fn character(typed: &mut Typed, byte: u8) -> Result<TypedNode, Refuse>
+    ensures { GivesExpr result typed.old typed.new (Good (spec.character byte)) }
+{
+    let letter = wrap(Kind::I8, i128::from(byte));
+    let wrapped = wrap(Kind::I32, letter.value());
+    typed_as(
+        typed,
+        ExprNode::Literal(wrapped),
+        ValueType::Number(Kind::I32),
+    )
+}
+
 // A name that is no variable.
 fn other_name(alloc: Global, typed: &mut Typed, line: u32, name: &[u8]) -> Result<TypedNode, Refuse>
     ensures { GivesExpr result typed.old typed.new (judged line (spec.other_name name.now)) }
@@ -91,57 +107,6 @@ pub(crate) fn name_meant(
     match variable {
         None => other_name(alloc, typed, line, name),
         Some(v) => typed_as(typed, ExprNode::Variable(v.number), v.of_type),
-    }
-}
-
-// ---- operators and casts
-
-fn operated(
-    alloc: Global,
-    typed: &mut Typed,
-    line: u32,
-    op: Op,
-    a: TypedNode,
-    b: TypedNode,
-) -> Result<TypedNode, Refuse>
-    requires a_in { HasTyped typed.old a }
-    requires b_in { HasTyped typed.old b }
-    ensures { GivesExpr result typed.old typed.new
-        (judged line (spec.operated op (typed_in typed.old a) (typed_in typed.old b))) }
-{
-    match of_two(op, a.of_type, b.of_type) {
-        None => Err(types_differ(alloc, line)),
-        Some(t) => typed_as(typed, ExprNode::Binary(op, a.node, b.node), t),
-    }
-}
-
-// The type of two operands under an operator.
-fn of_two(op: Op, a: ValueType, b: ValueType) -> Option<ValueType>
-    ensures { types.of_two op a b ≡ types.or_differ result }
-{
-    let ValueType::Number(a) = a else {
-        return None;
-    };
-    let ValueType::Number(b) = b else {
-        return None;
-    };
-    Some(ValueType::Number(result_kind(op, a, b)))
-}
-
-fn cast(
-    alloc: Global,
-    typed: &mut Typed,
-    line: u32,
-    to: Option<ValueType>,
-    x: TypedNode,
-) -> Result<TypedNode, Refuse>
-    requires { HasTyped typed.old x }
-    ensures { GivesExpr result typed.old typed.new
-        (judged line (spec.cast to (typed_in typed.old x))) }
-{
-    match to {
-        Some(to) if casts(x.of_type, to) => typed_as(typed, ExprNode::Cast(to, x.node), to),
-        _ => Err(types_differ(alloc, line)),
     }
 }
 
@@ -223,28 +188,34 @@ pub(crate) fn expr(
             scope.variable(name.as_slice()),
         ),
         Expr::Int(_, value) => literal(typed, value.base, value.suffix, value.value),
+        Expr::Char(_, byte) => character(typed, *byte),
         Expr::Text(line, _) => Err(types_differ(alloc, *line)),
+        Expr::Paren(_, a) => {
+            let x = expr(alloc, typed, scope, a)?;
+            passed(typed, x)
+        }
+        Expr::Unary(line, op, a) => {
+            let x = expr(alloc, typed, scope, a)?;
+            prefixed(alloc, typed, *line, *op, x)
+        }
         Expr::Call(line, name, args) => call(alloc, typed, scope, *line, name, args),
         Expr::Assign(line, place, op, value) => {
             assign(alloc, typed, scope, *line, place, *op, value)
         }
         Expr::Binary(line, op, a, b) => binary(alloc, typed, scope, *line, *op, a, b),
+        Expr::Choice(line, test, a, b) => choice(alloc, typed, scope, *line, test, a, b),
         Expr::Cast(line, to, a) => {
             let x = expr(alloc, typed, scope, a)?;
             let of_type = type_named(&to.name, to.stars);
             cast(alloc, typed, *line, of_type, x)
         }
-        Expr::Char(line, _)
-        | Expr::Paren(line, _)
-        | Expr::Int2Ptr(line, _, _)
+        Expr::Int2Ptr(line, _, _)
         | Expr::Index(line, _, _)
         | Expr::Arrow(line, _, _)
-        | Expr::Unary(line, _, _)
         | Expr::Deref(line, _)
         | Expr::Address(line, _)
         | Expr::Before(line, _, _)
-        | Expr::After(line, _, _)
-        | Expr::Choice(line, _, _, _) => Err(not_built(alloc, *line)),
+        | Expr::After(line, _, _) => Err(not_built(alloc, *line)),
     }
 }
 
@@ -274,7 +245,7 @@ fn assign(
     }
 }
 
-// Two operands with an operator.
+// Two operands with an operator between them.
 #[cycle(expr)]
 #[tactic(auto, using(xs_cstmt::proofs::ViewsCompute::views), unfolding(crate::specs::ExprTyping::expr))]
 fn binary(
@@ -289,15 +260,34 @@ fn binary(
     ensures { GivesExpr result typed.old typed.new
         (spec.expr scope.now.variables (Two line op (expr_tree a.now) (expr_tree b.now))) }
 {
-    match op {
-        BinaryOp::On(op) => {
-            let x = expr(alloc, typed, scope, a);
-            let y = expr(alloc, typed, scope, b);
-            let (x, y) = both(x, y)?;
-            operated(alloc, typed, line, op, x, y)
-        }
-        BinaryOp::Or | BinaryOp::And => Err(not_built(alloc, line)),
-    }
+    let x = expr(alloc, typed, scope, a);
+    let y = expr(alloc, typed, scope, b);
+    let (x, y) = both(x, y)?;
+    combined(alloc, typed, line, op, x, y)
+}
+
+// A choice of two values.
+#[cycle(expr)]
+#[tactic(auto, using(xs_cstmt::proofs::ViewsCompute::views), unfolding(crate::specs::ExprTyping::expr))]
+fn choice(
+    alloc: Global,
+    typed: &mut Typed,
+    scope: &Scope,
+    line: u32,
+    test: &Expr,
+    a: &Expr,
+    b: &Expr,
+) -> Result<TypedNode, Refuse>
+    ensures { GivesExpr result typed.old typed.new
+        (spec.expr scope.now.variables
+        (Choice line (expr_tree test.now) (expr_tree a.now) (expr_tree b.now))) }
+{
+    let test = expr(alloc, typed, scope, test);
+    let x = expr(alloc, typed, scope, a);
+    let y = expr(alloc, typed, scope, b);
+    let values = both(x, y);
+    let (test, (x, y)) = both(test, values)?;
+    chosen(alloc, typed, line, test, x, y)
 }
 
 // A call of a name.

@@ -8,19 +8,19 @@ ghost use Rattle.xs_ctree.specs.Functions.{code_of, functions_in, records_in};
 ghost use Rattle.xs_ctree.specs.Growth.{AddsStmt};
 ghost use Rattle.xs_ctree.specs.TypedTree as tree;
 ghost use Rattle.xs_ccheck.specs.FileTyping as spec;
-ghost use Rattle.xs_ccheck.specs.Resolving.{GivesFunction, GivesFunctions, GivesNone, HaveStmts, Stand, all_stmts_in, names_in};
+ghost use Rattle.xs_ccheck.specs.Resolving.{GivesFunction, GivesFunctions, GivesNone, HaveStmts, Stand, all_stmts_in};
+ghost use Rattle.xs_ctypes.specs.FileNames.{names_in};
 
-use crate::checked::{both, first_of, noted, settled};
-use crate::faults::{not_built, worded};
-use crate::file_names::FileNames;
-use crate::names::{is_boot_name, is_earlier, outermost};
-use crate::scopes::Scope;
+use crate::enclosing::outermost;
 use crate::stmts::stmts;
 use std::alloc::Global;
 use xs_base::fault_codes::DECLARED_TWICE;
 use xs_base::{Bytes, Fault, FileOf, Memory, Refuse};
 use xs_csyn::{CFile, Define, FileItem, PerlForm, PerlWord, Stmt, XsFun};
 use xs_ctree::{FunctionNode, Sort, StmtNode, Typed};
+use xs_ctypes::{
+    FileNames, Scope, both, first_of, is_boot_name, is_earlier, not_built, noted, settled, worded,
+};
 use xs_perlapi::Row;
 
 // The line of a statement `dXSARGS;`.

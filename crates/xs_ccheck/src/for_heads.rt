@@ -8,19 +8,17 @@ ghost use Rattle.xs_ctree.specs.TypedTree as tree;
 ghost use Rattle.xs_ctree.specs.declared.typed.Typed.{Typed};
 ghost use Rattle.xs_ccheck.specs.ExprTyping as exprs;
 ghost use Rattle.xs_ccheck.specs.Resolving.{ForEnds, GivesOption, GivesStmt, HasForParts, HasOption, UnlessMemory, option_in};
-ghost use Rattle.xs_ccheck.specs.Scopes as scopes;
+ghost use Rattle.xs_ctypes.specs.Scopes as scopes;
 ghost use Rattle.xs_ccheck.specs.StmtTyping as spec;
 
 use crate::declarations::declaration;
 use crate::exprs::{TypedNode, expr};
-use crate::faults::types_differ;
-use crate::scopes::Scope;
 use crate::stmt_nodes::{block, done, nothing, pair};
-use crate::value_types::is_condition;
 use std::alloc::Global;
 use xs_base::Refuse;
 use xs_csyn::{Expr, First};
 use xs_ctree::{Slot, StmtNode, TestNode, Typed};
+use xs_ctypes::{Scope, is_condition, types_differ};
 
 // An expression, where there is one.
 pub(crate) fn option_expr(

@@ -3,22 +3,20 @@ ghost use Rattle.std.specs.Prelude.{◌≡◌, None, Ok, Some, map};
 ghost use Rattle.xs_ctree.specs.Arena.{expr_from};
 ghost use Rattle.xs_ctree.specs.Functions.{arena_of, expr_in};
 ghost use Rattle.xs_ctree.specs.declared.typed.Typed.{Typed};
-ghost use Rattle.xs_ccheck.specs.Checked.{Fine, judged};
+ghost use Rattle.xs_ctypes.specs.Checked.{Fine, judged};
 ghost use Rattle.xs_ccheck.specs.ExprTyping as exprs;
-ghost use Rattle.xs_ccheck.specs.Joining.{joined};
+ghost use Rattle.xs_ctypes.specs.Joining.{joined};
 ghost use Rattle.xs_ccheck.specs.Resolving.{GivesLabel, GivesLabels, GivesStmt, HasTyped, HaveGroups, group_in, group_made};
-ghost use Rattle.xs_ccheck.specs.Scopes as scopes;
+ghost use Rattle.xs_ctypes.specs.Scopes as scopes;
 ghost use Rattle.xs_ccheck.specs.StmtTyping as spec;
 
-use crate::checked::{both, settled, take_up};
 use crate::exprs::{TypedNode, expr, name_meant};
-use crate::faults::types_differ;
-use crate::scopes::Scope;
 use std::alloc::Global;
 use xs_base::Refuse;
 use xs_csyn::Label;
 use xs_ctok::Literal;
 use xs_ctree::{ExprNode, Group as CodeGroup, Typed, ValueType};
+use xs_ctypes::{Scope, both, settled, take_up, types_differ};
 use xs_values::{CInt, DataModel, literal_kind, promote, wrap};
 
 // The number of an integer literal.

@@ -3,20 +3,16 @@
 #![tactic(auto)]
 
 mod calls;
-mod checked;
 mod declarations;
+mod enclosing;
 mod exprs;
-mod faults;
 mod file;
-mod file_names;
 mod for_heads;
 mod labels;
 mod laws;
-mod names;
-mod scopes;
+mod operators;
 mod stmt_nodes;
 mod stmts;
-mod value_types;
 
 pub use file::check_file;
 pub use laws::{least_fault_law, slots_once_law, types_do_not_depend_on_lines, types_of_forms_law};

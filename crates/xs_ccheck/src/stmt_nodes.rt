@@ -6,17 +6,16 @@ ghost use Rattle.xs_ctree.specs.Functions.{arena_of, expr_in, stmt_in};
 ghost use Rattle.xs_ctree.specs.Growth.{HasStmt};
 ghost use Rattle.xs_ctree.specs.TypedTree as tree;
 ghost use Rattle.xs_ctree.specs.declared.typed.Typed.{Typed};
-ghost use Rattle.xs_ccheck.specs.Checked.{Good, judged};
+ghost use Rattle.xs_ctypes.specs.Checked.{Good, judged};
 ghost use Rattle.xs_ccheck.specs.Resolving.{GivesStmt, HasTyped, HaveStmts, all_stmts_in, typed_in};
 ghost use Rattle.xs_ccheck.specs.StmtTyping as spec;
 
 use crate::exprs::TypedNode;
-use crate::faults::{types_differ, worded};
-use crate::value_types::is_condition;
 use std::alloc::Global;
 use xs_base::fault_codes::WORD_NOT_ALLOWED;
 use xs_base::{Memory, Refuse};
 use xs_ctree::{Slot, StmtNode, Typed};
+use xs_ctypes::{is_condition, types_differ, worded};
 
 // A node whose parts are there, as a statement.
 pub(crate) fn done(typed: &mut Typed, node: StmtNode) -> Result<u32, Refuse>

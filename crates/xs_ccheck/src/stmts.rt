@@ -9,28 +9,27 @@ ghost use Rattle.xs_ctree.specs.Functions.{arena_of, expr_in};
 ghost use Rattle.xs_ctree.specs.Growth.{HasExpr};
 ghost use Rattle.xs_ctree.specs.TypedTree as tree;
 ghost use Rattle.xs_ctree.specs.declared.typed.Typed.{Typed};
-ghost use Rattle.xs_ccheck.specs.Checked.{Good, judged};
+ghost use Rattle.xs_ctypes.specs.Checked.{Good, judged};
 ghost use Rattle.xs_ccheck.specs.Resolving.{BlockEnds, GivesGroup, GivesGroups, GivesStmt, GivesStmts, HasTyped, HaveStmts, UnlessMemory, typed_in};
-ghost use Rattle.xs_ccheck.specs.Scopes as scopes;
+ghost use Rattle.xs_ctypes.specs.Scopes as scopes;
 ghost use Rattle.xs_ccheck.specs.StmtTyping as spec;
 
-use crate::checked::{both, settled, take_up};
 use crate::declarations::declaration;
+use crate::enclosing::{Where, in_group, in_turn};
 use crate::exprs::{TypedNode, expr};
-use crate::faults::{is, not_built, types_differ, unknown, worded};
-use crate::file_names::FileNames;
 use crate::for_heads::{first_part, for_end, option_expr};
 use crate::labels::{group_of, labels, switched};
-use crate::names::{Where, in_group, in_turn};
-use crate::scopes::Scope;
 use crate::stmt_nodes::{block, conditional, done, leaving, nothing, without_else};
-use crate::value_types::goes_into;
 use std::alloc::Global;
 use xs_base::fault_codes::{UNKNOWN_FUNCTION, UNKNOWN_NAME, WORD_NOT_ALLOWED};
 use xs_base::{Bytes, Memory, Refuse};
 use xs_csyn::{Expr, ForHead, Group, PerlForm, PerlWord, Stmt};
 use xs_ctok::Literal;
 use xs_ctree::{ExprNode, Group as CodeGroup, StmtNode, TestNode, Typed, ValueType};
+use xs_ctypes::{
+    FileNames, Scope, both, goes_into, is, not_built, settled, take_up, types_differ, unknown,
+    worded,
+};
 use xs_perlapi::Row;
 use xs_values::{Kind, wrap};
 
@@ -296,7 +295,7 @@ fn block_end(
 }
 
 #[cycle(stmt)]
-#[tactic(auto, using(xs_cstmt::proofs::ViewsCompute::views), unfolding(crate::specs::StmtTyping::stmt, crate::specs::Scopes::scope_behind))]
+#[tactic(auto, using(xs_cstmt::proofs::ViewsCompute::views), unfolding(crate::specs::StmtTyping::stmt, xs_ctypes::specs::Scopes::scope_behind))]
 fn stmt(
     alloc: Global,
     typed: &mut Typed,
@@ -351,7 +350,7 @@ fn stmt(
 
 // An if without else.
 #[cycle(stmt)]
-#[tactic(auto, using(xs_cstmt::proofs::ViewsCompute::views), unfolding(crate::specs::StmtTyping::stmt, crate::specs::Scopes::scope_behind))]
+#[tactic(auto, using(xs_cstmt::proofs::ViewsCompute::views), unfolding(crate::specs::StmtTyping::stmt, xs_ctypes::specs::Scopes::scope_behind))]
 fn one_branch(
     alloc: Global,
     typed: &mut Typed,
@@ -376,7 +375,7 @@ fn one_branch(
 
 // An if with else.
 #[cycle(stmt)]
-#[tactic(auto, using(xs_cstmt::proofs::ViewsCompute::views), unfolding(crate::specs::StmtTyping::stmt, crate::specs::Scopes::scope_behind))]
+#[tactic(auto, using(xs_cstmt::proofs::ViewsCompute::views), unfolding(crate::specs::StmtTyping::stmt, xs_ctypes::specs::Scopes::scope_behind))]
 fn two_branches(
     alloc: Global,
     typed: &mut Typed,
@@ -410,7 +409,7 @@ fn two_branches(
 
 // A loop whose test comes before each turn.
 #[cycle(stmt)]
-#[tactic(auto, using(xs_cstmt::proofs::ViewsCompute::views), unfolding(crate::specs::StmtTyping::stmt, crate::specs::Scopes::scope_behind))]
+#[tactic(auto, using(xs_cstmt::proofs::ViewsCompute::views), unfolding(crate::specs::StmtTyping::stmt, xs_ctypes::specs::Scopes::scope_behind))]
 fn while_loop(
     alloc: Global,
     typed: &mut Typed,
@@ -436,7 +435,7 @@ fn while_loop(
 
 // A loop whose test comes after each turn.
 #[cycle(stmt)]
-#[tactic(auto, using(xs_cstmt::proofs::ViewsCompute::views), unfolding(crate::specs::StmtTyping::stmt, crate::specs::Scopes::scope_behind))]
+#[tactic(auto, using(xs_cstmt::proofs::ViewsCompute::views), unfolding(crate::specs::StmtTyping::stmt, xs_ctypes::specs::Scopes::scope_behind))]
 fn do_loop(
     alloc: Global,
     typed: &mut Typed,
@@ -462,7 +461,7 @@ fn do_loop(
 
 // A `for`.
 #[cycle(stmt)]
-#[tactic(auto, using(xs_cstmt::proofs::ViewsCompute::views), unfolding(crate::specs::StmtTyping::stmt, crate::specs::Scopes::scope_behind))]
+#[tactic(auto, using(xs_cstmt::proofs::ViewsCompute::views), unfolding(crate::specs::StmtTyping::stmt, xs_ctypes::specs::Scopes::scope_behind))]
 fn for_loop(
     alloc: Global,
     typed: &mut Typed,
@@ -493,7 +492,7 @@ fn for_loop(
 
 // A `switch`.
 #[cycle(stmt)]
-#[tactic(auto, using(xs_cstmt::proofs::ViewsCompute::views), unfolding(crate::specs::StmtTyping::stmt, crate::specs::Scopes::scope_behind))]
+#[tactic(auto, using(xs_cstmt::proofs::ViewsCompute::views), unfolding(crate::specs::StmtTyping::stmt, xs_ctypes::specs::Scopes::scope_behind))]
 fn switch(
     alloc: Global,
     typed: &mut Typed,
@@ -518,7 +517,7 @@ fn switch(
 
 // The groups of a `switch`.
 #[cycle(stmt)]
-#[tactic(auto, using(xs_cstmt::proofs::ViewsCompute::views), unfolding(crate::specs::StmtTyping::stmt, crate::specs::Scopes::scope_behind))]
+#[tactic(auto, using(xs_cstmt::proofs::ViewsCompute::views), unfolding(crate::specs::StmtTyping::stmt, xs_ctypes::specs::Scopes::scope_behind))]
 fn groups(
     alloc: Global,
     typed: &mut Typed,
@@ -543,7 +542,7 @@ fn groups(
 
 // The labels and the statements of a group.
 #[cycle(stmt)]
-#[tactic(auto, unfolding(crate::specs::StmtTyping::stmt, crate::specs::Scopes::scope_behind))]
+#[tactic(auto, unfolding(crate::specs::StmtTyping::stmt, xs_ctypes::specs::Scopes::scope_behind))]
 fn group(
     alloc: Global,
     typed: &mut Typed,
@@ -565,7 +564,7 @@ fn group(
 
 // Statements in order.
 #[cycle(stmt)]
-#[tactic(auto, using(xs_cstmt::proofs::ViewsCompute::views), unfolding(crate::specs::StmtTyping::stmt, crate::specs::Scopes::scope_behind))]
+#[tactic(auto, using(xs_cstmt::proofs::ViewsCompute::views), unfolding(crate::specs::StmtTyping::stmt, xs_ctypes::specs::Scopes::scope_behind))]
 pub(crate) fn stmts(
     alloc: Global,
     typed: &mut Typed,

@@ -9,7 +9,7 @@ use Rattle.xs_api.specs.declared.api.Operand.TheVariants.{Unset}
 use Rattle.xs_api.specs.World.{World, depths_of}
 use Rattle.xs_ctree.specs.declared.value_type.Slot.{Slot}
 use Rattle.xs_ctree.specs.Functions.{function_at}
-use Rattle.xs_ctree.specs.TypedTree.{Expr, Literal, Variable, ItemCount, Cast, Binary, Assign, Api, Usage, ToVariable, ToItem, Exprs, NoExprs, MoreExprs, Stmt, Block, Effect, Declare, If, Quit, Register, Stmts, NoStmts, MoreStmts, Function, Code, bare, bare_expr, bare_exprs, bare_function, bare_slot, bare_stmt, bare_stmts}
+use Rattle.xs_ctree.specs.TypedTree.{Expr, Literal, Variable, ItemCount, Passed, Read, Not, Unary, Cast, Binary, Assign, Api, Usage, ToVariable, ToItem, Exprs, NoExprs, MoreExprs, Stmt, Block, Effect, Declare, If, Quit, Register, Stmts, NoStmts, MoreStmts, Function, Code, bare, bare_expr, bare_exprs, bare_function, bare_slot, bare_stmt, bare_stmts}
 use Rattle.xs_machine.specs.Dispatch.{Prims, counted_rows}
 use Rattle.xs_machine.specs.MachineState.{State, Out, Done, Stop, ◌>>=◌, tick, truth_of}
 use Rattle.xs_machine.specs.Cmean.{choose, eval, evals, exec, exec_all}
@@ -31,6 +31,10 @@ chosen_alike b σ o p q r e g = ap₂ (choose b σ) e g
 module _ {S : Type 0} (P : Prims S) where
   mutual
     eval_bare : (e : Expr) (σ : State S) → eval P (bare_expr e) σ ≡ eval P e σ
+    eval_bare (Passed e) σ = eval_bare e σ
+    eval_bare (Read e) σ = goes_alike _ _ _ _ (eval_bare e σ) (λ v σ1. refl)
+    eval_bare (Not e) σ = goes_alike _ _ _ _ (eval_bare e σ) (λ v σ1. refl)
+    eval_bare (Unary op e) σ = goes_alike _ _ _ _ (eval_bare e σ) (λ v σ1. refl)
     eval_bare (Cast t e) σ = goes_alike _ _ _ _ (eval_bare e σ) (λ v σ1. refl)
     eval_bare (Binary op a b) σ = goes_alike _ _ _ _ (eval_bare a σ) (λ v σ1. goes_alike _ _ _ _ (eval_bare b σ1) (λ u σ2. refl))
     eval_bare (Assign at (ToVariable x t) e) σ = goes_alike _ _ _ _ (eval_bare e σ) (λ v σ1. refl)

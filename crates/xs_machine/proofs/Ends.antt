@@ -15,15 +15,16 @@ use Rattle.xs_api.specs.declared.stacks.Depths.{Depths}
 use Rattle.xs_perlapi.specs.declared.row.Row.TheVariants.{StSet, XsEnd}
 use Rattle.xs_ctree.specs.Functions.{function_at}
 use Rattle.xs_ctree.specs.TypedTree as tree
-use Rattle.xs_ctree.specs.TypedTree.{Expr, Literal, Variable, ItemCount, Cast, Binary, Assign, Api, Usage, Target, ToVariable, ToItem, NoExprs, MoreExprs, Stmt, Block, Declare, If, Quit, Register, NoStmts, MoreStmts, expr_count, Function, Code}
+use Rattle.xs_ctree.specs.TypedTree.{Expr, Literal, Variable, ItemCount, Passed, Read, Not, Unary, Cast, Binary, Assign, Api, Usage, Target, ToVariable, ToItem, NoExprs, MoreExprs, Stmt, Block, Declare, If, Quit, Register, NoStmts, MoreStmts, expr_count, Function, Code}
 use Rattle.xs_api.specs.World.{World, Swept, Clean, Dirty, depths_of}
 use Rattle.xs_api.specs.Effects.{Effect, Gives, Ends}
 use Rattle.xs_machine.specs.Dispatch.{Prims}
-use Rattle.xs_machine.specs.MachineState.{State, Out, Done, Stop, tick, lift, read_value, assigned, write_var, assign_as, given, calculate, item_count, operate, convert, truth_of, unbuilt}
+use Rattle.xs_machine.specs.MachineState.{State, Out, Done, Stop, tick, lift, read_value, assigned, write_var, assign_as, given, calculate, given_or, alone_value, item_count, operate, convert, truth_of, unbuilt}
 use Rattle.xs_api.specs.Limits.{most_items}
+use Rattle.xs_machine.specs.declared.machine.Alone.TheVariants as alone_of
 use Rattle.xs_machine.specs.Dispatch.{counted_rows}
 use Rattle.xs_machine.specs.Cmean.{dropped, exec}
-use Rattle.xs_machine.specs.Machine.{Work, DoExpr, DoExprs, DoStmt, DoStmts, SetVar, Operate, ToType, DoRow, Branch, DropTop, Enter, Leave, Mach, passed, popped, undefined_text, run_on, halt, on_top, unwind, at_leave, swept_to, land, fall_off, branch_on, entered, enter, act_assign, act_expr, act_stmt, act, step_at, step, steps, stmt_size, all_size, entry_size, left, run, call_meaning, call_over, is_over, begun_state, unless_barred}
+use Rattle.xs_machine.specs.Machine.{Work, DoExpr, DoExprs, DoStmt, DoStmts, SetVar, OnTop, Operate, ToType, DoRow, Branch, DropTop, Enter, Leave, Mach, passed, popped, undefined_text, run_on, halt, on_top, unwind, at_leave, swept_to, land, fall_off, branch_on, entered, enter, act_assign, act_expr, act_stmt, act, step_at, step, steps, stmt_size, all_size, entry_size, left, run, call_meaning, call_over, is_over, begun_state, unless_barred}
 use Rattle.xs_machine.specs.declared.machine.Outcome.TheVariants as outcome
 use Rattle.xs_machine.specs.Laws.{CallMeans, RunEnds}
 use Rattle.xs_machine.proofs.Follows.{Comes, comes_on, comes_by, comes_at, stmt_follows}
@@ -97,6 +98,7 @@ module _ {S : Type 0} (P : Prims S) (code : Code) where
   unwind_below a (DoStmt s ∷ k) σ = unwind_below a k σ
   unwind_below a (DoStmts ss ∷ k) σ = unwind_below a k σ
   unwind_below a (SetVar x t ∷ k) σ = unwind_below a k σ
+  unwind_below a (OnTop op ∷ k) σ = unwind_below a k σ
   unwind_below a (Operate op ∷ k) σ = unwind_below a k σ
   unwind_below a (ToType t ∷ k) σ = unwind_below a k σ
   unwind_below a (DoRow r n ∷ k) σ = unwind_below a k σ
@@ -151,6 +153,10 @@ module _ {S : Type 0} (P : Prims S) (code : Code) where
   calculate_turns (Ok n) σ = omega arith
   calculate_turns (Err t) σ = omega arith
 
+  value_turns : (r : Result Operand Trap) (σ : State S) → turns_of (given_or r σ) ≤ σ.turns
+  value_turns (Ok v) σ = omega arith
+  value_turns (Err t) σ = omega arith
+
   operate_turns : (op : Op) (v u : Operand) (σ : State S) → turns_of (operate op v u σ) ≤ σ.turns
   operate_turns op (Num a) (Num b) σ = calculate_turns (calculated op a b) σ
   operate_turns op (Num a) Unset σ = omega arith
@@ -195,6 +201,10 @@ module _ {S : Type 0} (P : Prims S) (code : Code) where
       (read_turns _ σ)
       (omega arith)
   expr_left ItemCount k vs σ = simple (DoExpr ItemCount ∷ k) k (item_count σ ∷ vs) σ σ (omega arith) (omega arith)
+  expr_left (Passed e) k vs σ = simple (DoExpr (Passed e) ∷ k) (DoExpr e ∷ k) vs σ σ (omega arith) (omega arith)
+  expr_left (Read e) k vs σ = simple (DoExpr (Read e) ∷ k) (DoExpr e ∷ OnTop alone_of.Read ∷ k) vs σ σ (omega arith) (omega arith)
+  expr_left (Not e) k vs σ = simple (DoExpr (Not e) ∷ k) (DoExpr e ∷ OnTop alone_of.Not ∷ k) vs σ σ (omega arith) (omega arith)
+  expr_left (Unary op e) k vs σ = simple (DoExpr (Unary op e) ∷ k) (DoExpr e ∷ OnTop (alone_of.Sign op) ∷ k) vs σ σ (omega arith) (omega arith)
   expr_left (Cast t e) k vs σ = simple (DoExpr (Cast t e) ∷ k) (DoExpr e ∷ ToType t ∷ k) vs σ σ (omega arith) (omega arith)
   expr_left (Binary op a b) k vs σ = simple (DoExpr (Binary op a b) ∷ k) (DoExpr a ∷ DoExpr b ∷ Operate op ∷ k) vs σ σ (omega arith) (omega arith)
   expr_left (Assign at to e) k vs σ = assign_left at to e k vs σ
@@ -229,6 +239,9 @@ module _ {S : Type 0} (P : Prims S) (code : Code) where
       top_left vs σ _ (all_size (Operate op ∷ k)) (omega arith) (λ u rest.
       top_left rest σ _ (all_size (Operate op ∷ k)) (omega arith) (λ v rest1. land_left ◌∷◌ k rest1 (operate op v u σ) σ.turns (all_size (Operate op ∷ k))
       (operate_turns op v u σ) (omega arith)))
+  act_left (OnTop op) k vs σ =
+      top_left vs σ _ (all_size (OnTop op ∷ k)) (omega arith) (λ v rest. land_left ◌∷◌ k rest (given_or (alone_value op v) σ) σ.turns (all_size (OnTop op ∷ k))
+      (value_turns (alone_value op v) σ) (omega arith))
   act_left (ToType t) k vs σ =
       top_left vs σ _ (all_size (ToType t ∷ k)) (omega arith) (λ v rest. land_left ◌∷◌ k rest (convert t v σ) σ.turns (all_size (ToType t ∷ k))
       (given_turns _ σ) (omega arith))

@@ -4,11 +4,13 @@ use mathlib.Core.List.{reverse_aux}
 use Rattle.xs_api.specs.declared.api.Abrupt.{Abrupt}
 use Rattle.xs_api.specs.declared.api.Operand.{Operand}
 use Rattle.xs_perlapi.specs.declared.row.Row.TheVariants.{StSet}
-use Rattle.xs_ctree.specs.TypedTree.{Expr, Literal, Variable, ItemCount, Cast, Binary, Assign, Api, Usage, ToVariable, ToItem, Exprs, NoExprs, MoreExprs, Stmt, Block, Effect, Declare, If, Quit, Register, Stmts, NoStmts, MoreStmts, expr_count, Code}
+use Rattle.xs_ctree.specs.TypedTree.{Expr, Literal, Variable, ItemCount, Passed, Read, Not, Unary, Cast, Binary, Assign, Api, Usage, ToVariable, ToItem, Exprs, NoExprs, MoreExprs, Stmt, Block, Effect, Declare, If, Quit, Register, Stmts, NoStmts, MoreStmts, expr_count, Code}
 use Rattle.xs_machine.specs.Dispatch.{Prims}
-use Rattle.xs_machine.specs.MachineState.{State, Out, Done, Stop, ◌>>=◌, lift, assigned, assign_as, operate, convert, truth_of}
+use Rattle.xs_machine.specs.MachineState.{State, Out, Done, Stop, ◌>>=◌, lift, assigned, assign_as, alone, operate, convert, truth_of}
+use Rattle.xs_machine.specs.declared.machine.Alone.{Alone}
+use Rattle.xs_machine.specs.declared.machine.Alone.TheVariants as alone_of
 use Rattle.xs_machine.specs.Cmean.{choose, dropped, eval, evals, exec, exec_all}
-use Rattle.xs_machine.specs.Machine.{Work, DoExpr, DoExprs, DoStmt, DoStmts, SetVar, Operate, ToType, DoRow, Branch, DropTop, Mach, passed, popped, run_on, unwind, land, branch_on, step, steps}
+use Rattle.xs_machine.specs.Machine.{Work, DoExpr, DoExprs, DoStmt, DoStmts, SetVar, OnTop, Operate, ToType, DoRow, Branch, DropTop, Mach, passed, popped, run_on, unwind, land, branch_on, step, steps}
 use Rattle.xs_machine.specs.Laws.{ExprFollows, MachineFollows}
 use Rattle.xs_machine.proofs.Tops.{popped_all}
 
@@ -73,8 +75,20 @@ module _ {S : Type 0} (P : Prims S) (code : Code) where
   choose_follows (Some true) x y k vs σ ox oy f g = f
   choose_follows (Some false) x y k vs σ ox oy f g = g
 
+  -- an operation on the value of an expression
+  one_follows : (e : Expr) (op : Alone) (k : List Work) (vs : List Operand) (σ : State S)
+      → Comes (run_on (DoExpr e ∷ OnTop op ∷ k) vs σ) (land P ◌∷◌ (OnTop op ∷ k) vs (eval P e σ))
+      → Comes (run_on (DoExpr e ∷ OnTop op ∷ k) vs σ) (land P ◌∷◌ k vs (eval P e σ >>= λ v σ1. alone op v σ1))
+  one_follows e op k vs σ c =
+      then_on ◌∷◌ ◌∷◌ _ (OnTop op ∷ k) k vs vs (eval P e σ) (λ v σ1. alone op v σ1) c (λ a σ1. refl)
+      (λ v σ1. comes_on _ _ (comes_at _ _ refl))
+
   mutual
     pub expr_follows : (e : Expr) (k : List Work) (vs : List Operand) (σ : State S) → Comes (run_on (DoExpr e ∷ k) vs σ) (land P ◌∷◌ k vs (eval P e σ))
+    expr_follows (Passed e) k vs σ = comes_on _ _ (expr_follows e k vs σ)
+    expr_follows (Read e) k vs σ = comes_on _ _ (one_follows e alone_of.Read k vs σ (expr_follows e (OnTop alone_of.Read ∷ k) vs σ))
+    expr_follows (Not e) k vs σ = comes_on _ _ (one_follows e alone_of.Not k vs σ (expr_follows e (OnTop alone_of.Not ∷ k) vs σ))
+    expr_follows (Unary op e) k vs σ = comes_on _ _ (one_follows e (alone_of.Sign op) k vs σ (expr_follows e (OnTop (alone_of.Sign op) ∷ k) vs σ))
     expr_follows (Cast t e) k vs σ =
         comes_on _ _ (then_on ◌∷◌ ◌∷◌ _ (ToType t ∷ k) k vs vs (eval P e σ) (λ v σ1. convert t v σ1)
         (expr_follows e (ToType t ∷ k) vs σ) (λ a σ1. refl)

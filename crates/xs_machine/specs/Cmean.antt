@@ -5,9 +5,10 @@ use Rattle.xs_perlapi.specs.declared.row.Row.TheVariants.{StSet}
 use Rattle.xs_api.specs.declared.api.Abrupt.TheVariants.{Traps}
 use Rattle.xs_api.specs.declared.api.Operand.{Operand}
 use Rattle.xs_api.specs.declared.api.Operand.TheVariants.{Unset, Num}
-use Rattle.xs_ctree.specs.TypedTree.{Expr, Literal, Variable, ItemCount, Cast, Binary, Assign, Api, Usage, ToVariable, ToItem, Exprs, NoExprs, MoreExprs, Stmt, Block, Effect, Declare, If, Quit, Register, Stmts, NoStmts, MoreStmts}
+use Rattle.xs_ctree.specs.TypedTree.{Expr, Literal, Variable, ItemCount, Passed, Read, Not, Unary, Cast, Binary, Assign, Api, Usage, ToVariable, ToItem, Exprs, NoExprs, MoreExprs, Stmt, Block, Effect, Declare, If, Quit, Register, Stmts, NoStmts, MoreStmts}
 use Rattle.xs_machine.specs.Dispatch.{Prims}
-use Rattle.xs_machine.specs.MachineState.{State, Out, Done, Stop, ◌>>=◌, lift, read_var, write_var, assigned, assign_as, item_count, operate, convert, truth_of, unbuilt}
+use Rattle.xs_machine.specs.MachineState.{State, Out, Done, Stop, ◌>>=◌, lift, read_var, write_var, assigned, assign_as, item_count, alone, operate, convert, truth_of, unbuilt}
+use Rattle.xs_machine.specs.declared.machine.Alone.TheVariants as alone_of
 
 -- one of two runs, by a condition
 abbrev pub choose : {S A : Type 0} → Option Bool → State S → Out S A → Out S A → Out S A
@@ -26,6 +27,10 @@ module _ {S : Type 0} (P : Prims S) where
     eval (Literal n) σ = Done (Num n) σ
     eval (Variable x) σ = read_var x σ
     eval ItemCount σ = Done (item_count σ) σ
+    eval (Passed e) σ = eval e σ
+    eval (Read e) σ = eval e σ >>= λ v σ1. alone alone_of.Read v σ1
+    eval (Not e) σ = eval e σ >>= λ v σ1. alone alone_of.Not v σ1
+    eval (Unary op e) σ = eval e σ >>= λ v σ1. alone (alone_of.Sign op) v σ1
     eval (Cast t e) σ = eval e σ >>= λ v σ1. convert t v σ1
     eval (Binary op a b) σ = eval a σ >>= λ v σ1. eval b σ1 >>= λ u σ2. operate op v u σ2
     eval (Assign at (ToVariable x t) e) σ = eval e σ >>= λ v σ1. assign_as (assigned t v) x σ1

@@ -14,10 +14,12 @@ use Rattle.xs_machine.specs.declared.machine.Outcome.{Outcome}
 use Rattle.xs_machine.specs.declared.machine.Outcome.TheVariants as outcome
 use Rattle.xs_api.specs.declared.stacks.Depths.{Depths}
 use Rattle.xs_ctree.specs.Functions.{function_at, boot_at, name_of}
-use Rattle.xs_ctree.specs.TypedTree.{Expr, Literal, Variable, ItemCount, Cast, Binary, Assign, Api, Usage, Target, ToVariable, ToItem, Exprs, NoExprs, MoreExprs, Stmt, Block, Effect, Declare, If, Quit, Register, Stmts, NoStmts, MoreStmts, expr_count, Function, Code}
+use Rattle.xs_ctree.specs.TypedTree.{Expr, Literal, Variable, ItemCount, Passed, Read, Not, Unary, Cast, Binary, Assign, Api, Usage, Target, ToVariable, ToItem, Exprs, NoExprs, MoreExprs, Stmt, Block, Effect, Declare, If, Quit, Register, Stmts, NoStmts, MoreStmts, expr_count, Function, Code}
 use Rattle.xs_api.specs.World.{World, Swept, Clean, Dirty, depths_of, new_cells, registered, sweep}
 use Rattle.xs_machine.specs.Dispatch.{Prims}
-use Rattle.xs_machine.specs.MachineState.{State, Out, Done, Stop, tick, lift, with_store, read_var, write_var, assigned, assign_as, item_count, operate, convert, truth_of, unbuilt}
+use Rattle.xs_machine.specs.MachineState.{State, Out, Done, Stop, tick, lift, with_store, read_var, write_var, assigned, assign_as, item_count, alone, operate, convert, truth_of, unbuilt}
+use Rattle.xs_machine.specs.declared.machine.Alone.{Alone}
+use Rattle.xs_machine.specs.declared.machine.Alone.TheVariants as alone_of
 use Rattle.xs_api.specs.Limits.{most_items}
 use Rattle.xs_machine.specs.Dispatch.{counted_rows}
 use Rattle.xs_machine.specs.Cmean.{dropped, exec}
@@ -32,6 +34,7 @@ pub data Work : Type 0 where
   DoStmt : Stmt → Work
   DoStmts : Stmts → Work
   SetVar : ℕ → ValueType → Work
+  OnTop : Alone → Work
   Operate : Op → Work
   ToType : ValueType → Work
   DoRow : Row → ℕ → Work
@@ -109,6 +112,7 @@ module _ {S : Type 0} (P : Prims S) where
   unwind a (DoStmt s ∷ k) σ = unwind a k σ
   unwind a (DoStmts ss ∷ k) σ = unwind a k σ
   unwind a (SetVar x t ∷ k) σ = unwind a k σ
+  unwind a (OnTop op ∷ k) σ = unwind a k σ
   unwind a (Operate op ∷ k) σ = unwind a k σ
   unwind a (ToType t ∷ k) σ = unwind a k σ
   unwind a (DoRow r n ∷ k) σ = unwind a k σ
@@ -150,6 +154,10 @@ module _ {S : Type 0} (P : Prims S) where
   act_expr (Literal n) k vs σ = run_on k (Num n ∷ vs) σ
   act_expr (Variable x) k vs σ = land ◌∷◌ k vs (read_var x σ)
   act_expr ItemCount k vs σ = run_on k (item_count σ ∷ vs) σ
+  act_expr (Passed e) k vs σ = run_on (DoExpr e ∷ k) vs σ
+  act_expr (Read e) k vs σ = run_on (DoExpr e ∷ OnTop alone_of.Read ∷ k) vs σ
+  act_expr (Not e) k vs σ = run_on (DoExpr e ∷ OnTop alone_of.Not ∷ k) vs σ
+  act_expr (Unary op e) k vs σ = run_on (DoExpr e ∷ OnTop (alone_of.Sign op) ∷ k) vs σ
   act_expr (Cast t e) k vs σ = run_on (DoExpr e ∷ ToType t ∷ k) vs σ
   act_expr (Binary op a b) k vs σ = run_on (DoExpr a ∷ DoExpr b ∷ Operate op ∷ k) vs σ
   act_expr (Assign at to e) k vs σ = act_assign to e k vs σ
@@ -182,6 +190,7 @@ module _ {S : Type 0} (P : Prims S) where
         on_top vs σ (λ v rest. land ◌∷◌ k rest (assign_as (assigned t v) x σ))
     act (Operate op) k vs σ =
         on_top vs σ (λ u rest. on_top rest σ (λ v rest2. land ◌∷◌ k rest2 (operate op v u σ)))
+    act (OnTop op) k vs σ = on_top vs σ (λ v rest. land ◌∷◌ k rest (alone op v σ))
     act (ToType t) k vs σ = on_top vs σ (λ v rest. land ◌∷◌ k rest (convert t v σ))
     act (DoRow r n) k vs σ =
         land ◌∷◌ k (popped n [] vs).1 (lift (P.row r (popped n [] vs).0 σ.frame σ.store) σ)
@@ -220,6 +229,10 @@ abbrev mutual
   expr_size (Literal n) = 1
   expr_size (Variable x) = 1
   expr_size ItemCount = 1
+  expr_size (Passed e) = expr_size e + 1
+  expr_size (Read e) = expr_size e + 2
+  expr_size (Not e) = expr_size e + 2
+  expr_size (Unary op e) = expr_size e + 2
   expr_size (Cast t e) = expr_size e + 2
   expr_size (Binary op a b) = expr_size a + expr_size b + 2
   expr_size (Assign at to e) = target_size to + expr_size e + 2
@@ -255,6 +268,7 @@ work_size (DoExprs es) = exprs_size es
 work_size (DoStmt s) = stmt_size s
 work_size (DoStmts ss) = stmts_size ss
 work_size (SetVar x t) = 1
+work_size (OnTop op) = 1
 work_size (Operate op) = 1
 work_size (ToType t) = 1
 work_size (DoRow r n) = 1

@@ -5,7 +5,8 @@ use Rattle.xs_values.specs.declared.kind.Kind.TheVariants.{I32}
 use Rattle.xs_values.specs.declared.operator.Op.{Op}
 use Rattle.xs_values.specs.declared.trap.Trap.{Trap}
 use Rattle.xs_values.specs.declared.trap.Trap.TheVariants as trap
-use Rattle.xs_values.specs.Numbers.{Number, calculated, wrapped}
+use Rattle.xs_values.specs.declared.unary_operator.UnOp.{UnOp}
+use Rattle.xs_values.specs.Numbers.{Number, calculated, calculated_unary, wrapped}
 use Rattle.std.specs.Prelude.{Result, Ok, Err}
 use Rattle.std.specs.Result.{result_map_both}
 use Rattle.xs_api.specs.declared.api.Abrupt.{Abrupt}
@@ -16,6 +17,8 @@ use Rattle.xs_api.specs.declared.api.Operand.TheVariants.{Unset, Num, Scalar, Vo
 use Rattle.xs_ctree.specs.declared.value_type.ValueType.{ValueType}
 use Rattle.xs_ctree.specs.declared.value_type.ValueType.TheVariants as type_of
 use Rattle.xs_api.specs.Effects.{Effect, Gives, Ends}
+use Rattle.xs_machine.specs.declared.machine.Alone.{Alone}
+use Rattle.xs_machine.specs.declared.machine.Alone.TheVariants as alone_of
 
 -- the variables of the present function by their slots, what it knows of its call, what the rows
 -- work on, and the turns that are left
@@ -60,6 +63,32 @@ assigned type_of.Scalar Unset = None
 assigned type_of.Scalar Void = None
 assigned _ v = None
 
+-- what `!` gives, 0 or 1 of kind I32 (C11 6.5.3.3p5)
+abbrev pub negated : Option Bool → Result Operand Trap
+negated None = Err trap.Kind
+negated (Some true) = Ok (Num (wrapped I32 (pos 0)))
+negated (Some false) = Ok (Num (wrapped I32 (pos 1)))
+
+-- what an operator gives before its operand
+abbrev pub signed : UnOp → Operand → Result Operand Trap
+signed op (Num a) = result_map_both Num (λ t. t) (calculated_unary op a)
+signed op Unset = Err trap.Kind
+signed op (Scalar p) = Err trap.Kind
+signed op Void = Err trap.Kind
+
+-- what a function gave is read: one that fell off its end gave nothing (C11 6.9.1p12)
+abbrev pub result_read : Operand → Result Operand Trap
+result_read Unset = Err trap.Unset
+result_read (Num n) = Ok (Num n)
+result_read (Scalar p) = Ok (Scalar p)
+result_read Void = Ok Void
+
+-- what an operation on one value gives
+abbrev pub alone_value : Alone → Operand → Result Operand Trap
+alone_value alone_of.Read v = result_read v
+alone_value alone_of.Not v = negated (truth_of v)
+alone_value (alone_of.Sign op) v = signed op v
+
 module _ {S : Type 0} where
   infixl 10 ◌>>=◌
   -- goes on from where a run is done
@@ -67,7 +96,7 @@ module _ {S : Type 0} where
   (Done a σ) >>= go = go a σ
   (Stop a σ) >>= go = Stop a σ
 
-  -- a form of code whose meaning is not built yet; no code of the types stage has it
+  -- a form of code whose meaning is not built yet; the code of glue has none
   abbrev pub unbuilt : {A : Type 0} → State S → Out S A
   unbuilt σ = Stop (Traps trap.Kind) σ
 
@@ -125,6 +154,10 @@ module _ {S : Type 0} where
   operate op Unset v σ = Stop (Traps trap.Kind) σ
   operate op (Scalar p) v σ = Stop (Traps trap.Kind) σ
   operate op Void v σ = Stop (Traps trap.Kind) σ
+
+  -- an operation on one value
+  abbrev pub alone : Alone → Operand → State S → Out S Operand
+  alone op v σ = given_or (alone_value op v) σ
 
   -- a cast to a type
   abbrev pub convert : ValueType → Operand → State S → Out S Operand

@@ -9,7 +9,7 @@ use Rattle.xs_machine.specs.declared.machine.Task.{Task}
 use Rattle.xs_machine.specs.declared.machine.Task.TheVariants as task
 use Rattle.xs_ctree.specs.Arena.{ranged}
 use Rattle.xs_ctree.specs.Functions.{code_of, expr_in, stmt_in}
-use Rattle.xs_machine.specs.Machine.{Mach, Work, short_of, with_world, DoExpr, DoExprs, DoStmt, DoStmts, SetVar, Operate, ToType, DoRow, Branch, DropTop, Enter, Leave}
+use Rattle.xs_machine.specs.Machine.{Mach, Work, short_of, with_world, DoExpr, DoExprs, DoStmt, DoStmts, SetVar, OnTop, Operate, ToType, DoRow, Branch, DropTop, Enter, Leave}
 use Rattle.xs_machine.specs.MachineState.{State, given_or, operate}
 use Rattle.xs_api.specs.declared.api.Stop.{Stop}
 use Rattle.xs_values.specs.declared.plain.Plain.{Plain}
@@ -24,6 +24,7 @@ task_of t (task.DoExprs r) = DoExprs (exprs_of (map (expr_in t) (ranged t.parts.
 task_of t (task.DoStmt i) = DoStmt (stmt_in t i)
 task_of t (task.DoStmts r) = DoStmts (stmts_of (map (stmt_in t) (ranged t.parts.items r)))
 task_of t (task.SetVar x ty) = SetVar x ty
+task_of t (task.OnTop op) = OnTop op
 task_of t (task.Operate op) = Operate op
 task_of t (task.ToType ty) = ToType ty
 task_of t (task.DoRow r n) = DoRow r n

@@ -20,7 +20,7 @@ use xs_api::{
 use xs_base::{Bytes, Items, Memory};
 use xs_ctree::{Range, Typed, ValueType};
 use xs_perlapi::Row;
-use xs_values::{Name, Op, Plain, Trap};
+use xs_values::{Name, Op, Plain, Trap, UnOp};
 
 /// How the work that ended last came to its end.
 #[derive(Debug, Drop)]
@@ -43,6 +43,16 @@ pub enum Step {
     Ended,
 }
 
+/// An operation on one value.
+#[derive(Clone, Copy, Debug)]
+pub enum Alone {
+    /// What a function gave is read.
+    Read,
+    /// `!`
+    Not,
+    Sign(UnOp),
+}
+
 /// A piece of pending work. Expressions and statements are named by their nodes.
 #[derive(Clone, Copy, Debug)]
 pub enum Task {
@@ -53,6 +63,8 @@ pub enum Task {
     /// Statements of a block: a range of the code's parts.
     DoStmts(Range),
     SetVar(u32, ValueType),
+    /// An operation on the topmost operand.
+    OnTop(Alone),
     Operate(Op),
     ToType(ValueType),
     /// A row of Perl's API, and the number of its operands.

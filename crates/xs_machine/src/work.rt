@@ -10,13 +10,13 @@ ghost use Rattle.xs_ctree.specs.TypedTree.{Function};
 ghost use Rattle.xs_machine.specs.MachineViews.{HasTop, IsShort, Operates, code_in, mach_of, operands_of, pending_of, state_of, task_of};
 
 use crate::dispatch::{croak_usage, register, row_at};
-use crate::machine::{Machine, Outcome, Task};
+use crate::machine::{Alone, Machine, Outcome, Task};
 use std::alloc::Global;
 use xs_api::{Abrupt, Depths, Halt, Operand, pop_top};
 use xs_base::{Bytes, Items, Memory};
 use xs_ctree::{Callable, ExprNode, Range, StmtNode, TargetNode, ValueType};
 use xs_perlapi::Row;
-use xs_values::{Kind, Op, Trap, arith, wrap};
+use xs_values::{Kind, Op, Trap, UnOp, arith, unary, wrap};
 
 // One expression, by its node.
 fn act_on_expr(m: &mut Machine, i: u32) -> Result<(), Memory>
@@ -45,6 +45,10 @@ fn act_on_expr_node(m: &mut Machine, node: ExprNode) -> Result<(), Memory>
         ExprNode::Literal(n) => m.push(Operand::Num(n)),
         ExprNode::Variable(x) => read_variable(m, x),
         ExprNode::ItemCount => push_items(m),
+        ExprNode::Passed(e) => m.then(Task::DoExpr(e)),
+        ExprNode::Read(e) => m.then_two(Task::DoExpr(e), Task::OnTop(Alone::Read)),
+        ExprNode::Not(e) => m.then_two(Task::DoExpr(e), Task::OnTop(Alone::Not)),
+        ExprNode::Unary(op, e) => m.then_two(Task::DoExpr(e), Task::OnTop(Alone::Sign(op))),
         ExprNode::Cast(t, e) => m.then_two(Task::DoExpr(e), Task::ToType(t)),
         ExprNode::Binary(op, a, b) => {
             m.then(Task::Operate(op))?;
@@ -327,6 +331,66 @@ fn operate(op: Op, a: Operand, b: Operand) -> Result<Operand, Trap>
     }
 }
 
+// An operation on the topmost operand.
+fn act_on_top(m: &mut Machine, op: Alone) -> Result<(), Memory>
+    requires { m.old.stopped ≡ Outcome.Returned [] }
+    ensures acts { OnOk result (mach_of m.new
+        ≡ machine.act counted_rows (code_in m.old) (machine.OnTop op) (pending_of m.old)
+        (operands_of m.old) (state_of m.old)) }
+    ensures typed { m.new.typed ≡ m.old.typed }
+{
+    let Some(v) = pop_operand(m) else {
+        return Ok(());
+    };
+    land(m, alone_value(op, v))
+}
+
+fn alone_value(op: Alone, v: Operand) -> Result<Operand, Trap>
+    ensures { result ≡ state.alone_value op v }
+{
+    match op {
+        Alone::Read => result_read(v),
+        Alone::Not => negated(truth_of(v)),
+        Alone::Sign(op) => signed(op, v),
+    }
+}
+
+// What a function gave is read: one that fell off its end gave nothing.
+fn result_read(v: Operand) -> Result<Operand, Trap>
+    ensures { result ≡ state.result_read v }
+{
+    match v {
+        Operand::Unset => Err(Trap::Unset),
+        Operand::Num(n) => Ok(Operand::Num(n)),
+        Operand::Scalar(s) => Ok(Operand::Scalar(s)),
+        Operand::Void => Ok(Operand::Void),
+    }
+}
+
+// What `!` gives.
+fn negated(holds: Option<bool>) -> Result<Operand, Trap>
+    ensures { result ≡ state.negated holds }
+{
+    match holds {
+        None => Err(Trap::Kind),
+        Some(true) => Ok(Operand::Num(wrap(Kind::I32, 0))),
+        Some(false) => Ok(Operand::Num(wrap(Kind::I32, 1))),
+    }
+}
+
+// What an operator gives before its operand.
+fn signed(op: UnOp, v: Operand) -> Result<Operand, Trap>
+    ensures { result ≡ state.signed op v }
+{
+    match v {
+        Operand::Num(a) => match unary(op, a) {
+            Ok(n) => Ok(Operand::Num(n)),
+            Err(trap) => Err(trap),
+        },
+        Operand::Unset | Operand::Scalar(_) | Operand::Void => Err(Trap::Kind),
+    }
+}
+
 // A cast of the topmost operand.
 fn act_on_cast(m: &mut Machine, t: ValueType) -> Result<(), Memory>
     requires { m.old.stopped ≡ Outcome.Returned [] }
@@ -532,6 +596,7 @@ pub(crate) fn act_on(m: &mut Machine, task: Task) -> Result<(), Memory>
         Task::DoStmt(i) => act_on_stmt(m, i),
         Task::DoStmts(body) => act_on_stmts(m, body),
         Task::SetVar(x, t) => act_on_assign(m, x, t),
+        Task::OnTop(op) => act_on_top(m, op),
         Task::Operate(op) => act_on_operator(m, op),
         Task::ToType(t) => act_on_cast(m, t),
         Task::DoRow(row, n) => act_on_row(m, row, n),

@@ -4,7 +4,7 @@
 use crate::syntax_tables::Row;
 
 /// Expressions as deep as they may stand, and deeper.
-pub const DEEP_EXPRESSIONS: [Row; 63] = [
+pub static DEEP_EXPRESSIONS: [Row; 63] = [
     (
         "int f(int a) {\n",
         "(",
@@ -260,7 +260,7 @@ pub const DEEP_EXPRESSIONS: [Row; 63] = [
 ];
 
 /// Statements as deep as they may stand, and deeper.
-pub const DEEP_STATEMENTS: [Row; 22] = [
+pub static DEEP_STATEMENTS: [Row; 22] = [
     (
         "int f(int a) {\n",
         "{",

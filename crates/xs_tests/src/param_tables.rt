@@ -4,7 +4,7 @@
 
 /// Types, names, `&` and `...`.
 #[rattlefmt::skip]
-pub const TYPES_AND_NAMES: [(&[u8], &[u8]); 24] = [
+pub static TYPES_AND_NAMES: [(&[u8], &[u8]); 24] = [
     (b"()", b") 1\n"),
     (b"( )", b") 1\n"),
     (b"(a)", b"1 in - a\n) 1\n"),
@@ -33,7 +33,7 @@ pub const TYPES_AND_NAMES: [(&[u8], &[u8]); 24] = [
 
 /// Words of direction, which are names where a parameter ends after them.
 #[rattlefmt::skip]
-pub const DIRECTIONS: [(&[u8], &[u8]); 24] = [
+pub static DIRECTIONS: [(&[u8], &[u8]); 24] = [
     (b"(IN int a, OUT int b, IN_OUT int c, OUTLIST int d, IN_OUTLIST int e)", b"1 in [int]1 a\n1 out [int]1 b\n1 in_out [int]1 c\n1 outlist [int]1 d\n1 in_outlist [int]1 e\n) 1\n"),
     (b"(IN a, OUT b)", b"1 in - a\n1 out - b\n) 1\n"),
     (b"(IN)", b"1 in - IN\n) 1\n"),
@@ -62,7 +62,7 @@ pub const DIRECTIONS: [(&[u8], &[u8]); 24] = [
 
 /// `length(NAME)`.
 #[rattlefmt::skip]
-pub const LENGTHS: [(&[u8], &[u8]); 21] = [
+pub static LENGTHS: [(&[u8], &[u8]); 21] = [
     (b"(char *s, int length(s))", b"1 in [char *]1 s\n1 in [int]1 length s\n) 1\n"),
     (b"(length(s))", b"1 in - length s\n) 1\n"),
     (b"(STRLEN length ( s ), char *s)", b"1 in [STRLEN]1 length s\n1 in [char *]1 s\n) 1\n"),
@@ -88,7 +88,7 @@ pub const LENGTHS: [(&[u8], &[u8]); 21] = [
 
 /// Defaults, as they stand.
 #[rattlefmt::skip]
-pub const DEFAULTS: [(&[u8], &[u8]); 23] = [
+pub static DEFAULTS: [(&[u8], &[u8]); 23] = [
     (b"(int a = 7)", b"1 in [int]1 a = 7\n) 1\n"),
     (b"(int a=7, b =8)", b"1 in [int]1 a = 7\n1 in - b = 8\n) 1\n"),
     (b"(int a = NO_INIT)", b"1 in [int]1 a unset\n) 1\n"),
@@ -116,7 +116,7 @@ pub const DEFAULTS: [(&[u8], &[u8]); 23] = [
 
 /// Names that stand twice, and defaults before plain parameters.
 #[rattlefmt::skip]
-pub const FAULTS_OF_NAMES: [(&[u8], &[u8]); 22] = [
+pub static FAULTS_OF_NAMES: [(&[u8], &[u8]); 22] = [
     (b"(int a, int a)", b"1: 303 a\n"),
     (b"(int a, int a, int b = 1, int c)", b"1: 303 a\n"),
     (b"(int a, OUT int a = 1)", b"1: 303 a\n"),
@@ -143,7 +143,7 @@ pub const FAULTS_OF_NAMES: [(&[u8], &[u8]); 22] = [
 
 /// Lists of another form, each on the line of the first token that has no reading.
 #[rattlefmt::skip]
-pub const FAULTS_OF_FORM: [(&[u8], &[u8]); 55] = [
+pub static FAULTS_OF_FORM: [(&[u8], &[u8]); 55] = [
     (b"(", b"1: 302 \n"),
     (b"(\n\n  \n", b"1: 302 \n"),
     (b"(int", b"1: 302 \n"),
@@ -203,7 +203,7 @@ pub const FAULTS_OF_FORM: [(&[u8], &[u8]); 55] = [
 
 /// What stands after the `)`.
 #[rattlefmt::skip]
-pub const AFTER_THE_LIST: [(&[u8], &[u8]); 18] = [
+pub static AFTER_THE_LIST: [(&[u8], &[u8]); 18] = [
     (b"(int a) ", b"1 in [int]1 a\n) 1\n"),
     (b"(int a) /* x */ // y", b"1 in [int]1 a\n) 1\n"),
     (b"(int a)\t/* x *//* y */", b"1 in [int]1 a\n) 1\n"),

@@ -4,7 +4,7 @@
 pub type Row = (&'static str, &'static str, u8, &'static str, u16, u32);
 
 /// Items of files, and lines and words that are dropped.
-pub const FILES: [Row; 64] = [
+pub static FILES: [Row; 64] = [
     ("", "", 0, "", 0, 0),
     ("\n\n", "", 0, "", 0, 0),
     ("\n;", "", 0, "", 704, 2),
@@ -191,7 +191,7 @@ pub const FILES: [Row; 64] = [
 ];
 
 /// Declarations and statements.
-pub const STATEMENTS: [Row; 58] = [
+pub static STATEMENTS: [Row; 58] = [
     ("void f(int a) {\n}", "", 0, "", 0, 0),
     ("void f(int a) {\n;;;}", "", 0, "", 0, 0),
     ("void f(int a) {\nint b;}", "", 0, "", 0, 0),
@@ -400,7 +400,7 @@ pub const STATEMENTS: [Row; 58] = [
 ];
 
 /// Statements of the XS interface.
-pub const XS_STATEMENTS: [Row; 13] = [
+pub static XS_STATEMENTS: [Row; 13] = [
     (
         "XS(XS_x)\n{ dXSARGS;\nSP -= items; XSANY.any_i32 = 5; newXS_deffile(\"M::x\", f); cv = newXS_deffile(\"y\", f); Newxz(p, 1, P); PERL_UNUSED_VAR(ix); ENTER; LEAVE; SAVETMPS; FREETMPS; PUTBACK; SPAGAIN; dSP; XSRETURN_UNDEF; XSRETURN_NO; XSRETURN_YES; }",
         "",
@@ -494,7 +494,7 @@ pub const XS_STATEMENTS: [Row; 13] = [
 ];
 
 /// Expressions as statements.
-pub const EFFECTS: [Row; 52] = [
+pub static EFFECTS: [Row; 52] = [
     (
         "void f(int a) {\n1; 0x1fUL; 'a'; \"b\"; a; f(); f(a); f(a, b, c = 1); (a); p->x; a[1][2][\"c\"]; }",
         "",
@@ -602,7 +602,7 @@ pub const EFFECTS: [Row; 52] = [
 pub type Piece = (&'static str, u32, u16, u32);
 
 /// Pieces of a block, with how many statements stand around each. `foo` is a type.
-pub const BLOCKS: [Piece; 27] = [
+pub static BLOCKS: [Piece; 27] = [
     ("", 0, 0, 0),
     ("a = 1;\nint b;", 0, 0, 0),
     ("a = 1;\n}", 0, 704, 2),
@@ -633,7 +633,7 @@ pub const BLOCKS: [Piece; 27] = [
 ];
 
 /// Expressions, with how many nodes stand around each. `foo` is a type.
-pub const EXPRESSIONS: [Piece; 38] = [
+pub static EXPRESSIONS: [Piece; 38] = [
     ("", 0, 704, 1),
     ("a", 0, 0, 0),
     ("a,\nb", 0, 704, 1),
@@ -675,7 +675,7 @@ pub const EXPRESSIONS: [Piece; 38] = [
 ];
 
 /// Arguments of a call, with how many nodes stand around each. `foo` is a type.
-pub const ARGUMENTS: [Piece; 16] = [
+pub static ARGUMENTS: [Piece; 16] = [
     ("", 0, 0, 0),
     ("a", 0, 0, 0),
     ("a, b", 0, 0, 0),

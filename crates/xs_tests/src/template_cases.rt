@@ -57,7 +57,7 @@ fn shown(alloc: Global, text: &[u8]) -> Result<Bytes, Memory> {
 
 // Templates, and what each expands to after `A` for an assignment and `S` for a statement; or the
 // line, code and word of the fault after `F`.
-const CASES: [(&str, &str); 52] = [
+static CASES: [(&str, &str); 52] = [
     ("", "S "),
     ("plain", "S plain"),
     ("$var = ($type)SvIV($arg)", "S v = (char *)SvIV(ST(0))"),

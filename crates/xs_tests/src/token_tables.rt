@@ -4,7 +4,7 @@
 
 /// Words, blanks and ends of lines.
 #[rattlefmt::skip]
-pub const WORDS: [(&[u8], &[u8]); 14] = [
+pub static WORDS: [(&[u8], &[u8]); 14] = [
     (b"", b""),
     (b" \t", b""),
     (b"a", b"1:1 w a\n"),
@@ -23,7 +23,7 @@ pub const WORDS: [(&[u8], &[u8]); 14] = [
 
 /// Integers: bases, suffixes, the greatest value.
 #[rattlefmt::skip]
-pub const INTEGERS: [(&[u8], &[u8]); 8] = [
+pub static INTEGERS: [(&[u8], &[u8]); 8] = [
     (b"0 7 10", b"1:1 i 0d\n1:3 i 7d\n1:5 i 10d\n"),
     (b"00 017 01777777777777777777777", b"1:1 i 0o\n1:4 i 15o\n1:8 i 18446744073709551615o\n"),
     (b"0x0 0XfF 0xABCDEFabcdef", b"1:1 i 0x\n1:5 i 255x\n1:10 i 188900977659375x\n"),
@@ -36,7 +36,7 @@ pub const INTEGERS: [(&[u8], &[u8]); 8] = [
 
 /// An integer that runs into what it cannot hold is two tokens.
 #[rattlefmt::skip]
-pub const INTEGERS_AND_WORDS: [(&[u8], &[u8]); 15] = [
+pub static INTEGERS_AND_WORDS: [(&[u8], &[u8]); 15] = [
     (b"09", b"1:1 i 0o\n1:2 i 9d\n"),
     (b"0x", b"1:1 i 0d\n1:2 w x\n"),
     (b"0xg", b"1:1 i 0d\n1:2 w xg\n"),
@@ -56,7 +56,7 @@ pub const INTEGERS_AND_WORDS: [(&[u8], &[u8]); 15] = [
 
 /// Integers that are too wide, also with letters after them.
 #[rattlefmt::skip]
-pub const WIDE_INTEGERS: [(&[u8], &[u8]); 6] = [
+pub static WIDE_INTEGERS: [(&[u8], &[u8]); 6] = [
     (b"18446744073709551616", b"703 at 1"),
     (b"a\n18446744073709551616x", b"703 at 2"),
     (b"02000000000000000000000", b"703 at 1"),
@@ -67,7 +67,7 @@ pub const WIDE_INTEGERS: [(&[u8], &[u8]); 6] = [
 
 /// Floating constants.
 #[rattlefmt::skip]
-pub const FLOATING: [(&[u8], &[u8]); 15] = [
+pub static FLOATING: [(&[u8], &[u8]); 15] = [
     (b"1.5", b"707 at 1"),
     (b"1.", b"707 at 1"),
     (b".5", b"707 at 1"),
@@ -87,7 +87,7 @@ pub const FLOATING: [(&[u8], &[u8]); 15] = [
 
 /// No floating constants.
 #[rattlefmt::skip]
-pub const NOT_FLOATING: [(&[u8], &[u8]); 10] = [
+pub static NOT_FLOATING: [(&[u8], &[u8]); 10] = [
     (b"1e", b"1:1 i 1d\n1:2 w e\n"),
     (b"1e+", b"1:1 i 1d\n1:2 w e\n1:3 p +\n"),
     (b"1ex", b"1:1 i 1d\n1:2 w ex\n"),
@@ -102,7 +102,7 @@ pub const NOT_FLOATING: [(&[u8], &[u8]); 10] = [
 
 /// Characters.
 #[rattlefmt::skip]
-pub const CHARACTERS: [(&[u8], &[u8]); 18] = [
+pub static CHARACTERS: [(&[u8], &[u8]); 18] = [
     (b"'a' '\"' ' '", b"1:1 c 97\n1:5 c 34\n1:9 c 32\n"),
     (b"'\\n' '\\t' '\\r' '\\0' '\\\\' '\\'' '\\\"'", b"1:1 c 10\n1:6 c 9\n1:11 c 13\n1:16 c 0\n1:21 c 92\n1:26 c 39\n1:31 c 34\n"),
     (b"'\\x41' '\\xfF' '\\101' '\\000' '\\377'", b"1:1 c 65\n1:8 c 255\n1:15 c 65\n1:22 c 0\n1:29 c 255\n"),
@@ -125,7 +125,7 @@ pub const CHARACTERS: [(&[u8], &[u8]); 18] = [
 
 /// Texts.
 #[rattlefmt::skip]
-pub const TEXTS: [(&[u8], &[u8]); 20] = [
+pub static TEXTS: [(&[u8], &[u8]); 20] = [
     (b"\"\"", b"1:1 t \n"),
     (b"\"a b\" \"c\"", b"1:1 t a b\n1:7 t c\n"),
     (b"\"\\n\\t\\r\\0\\\\\\'\\\"\"", b"1:1 t \n\t\r\0\\'\"\n"),
@@ -150,7 +150,7 @@ pub const TEXTS: [(&[u8], &[u8]); 20] = [
 
 /// Punctuators, the longest first.
 #[rattlefmt::skip]
-pub const PUNCTUATORS: [(&[u8], &[u8]); 19] = [
+pub static PUNCTUATORS: [(&[u8], &[u8]); 19] = [
     (b";{}()*,=:?^&<>+-/%!~[].|", b"1:1 p ;\n1:2 p {\n1:3 p }\n1:4 p (\n1:5 p )\n1:6 p *\n1:7 p ,\n1:8 p =\n1:9 p :\n1:10 p ?\n1:11 p ^\n1:12 p &\n1:13 p <\n1:14 p >\n1:15 p +\n1:16 p -\n1:17 p /\n1:18 p %\n1:19 p !\n1:20 p ~\n1:21 p [\n1:22 p ]\n1:23 p .\n1:24 p |\n"),
     (b"|| && == != <= >= << >> ++ -- -> += -= *= /= %= &= |= ^= <<= >>= ...", b"1:1 p ||\n1:4 p &&\n1:7 p ==\n1:10 p !=\n1:13 p <=\n1:16 p >=\n1:19 p <<\n1:22 p >>\n1:25 p ++\n1:28 p --\n1:31 p ->\n1:34 p +=\n1:37 p -=\n1:40 p *=\n1:43 p /=\n1:46 p %=\n1:49 p &=\n1:52 p |=\n1:55 p ^=\n1:58 p <<=\n1:62 p >>=\n1:66 p ...\n"),
     (b"a<<=b>>=c<<d>>e<=f", b"1:1 w a\n1:2 p <<=\n1:5 w b\n1:6 p >>=\n1:9 w c\n1:10 p <<\n1:12 w d\n1:13 p >>\n1:15 w e\n1:16 p <=\n1:18 w f\n"),
@@ -174,7 +174,7 @@ pub const PUNCTUATORS: [(&[u8], &[u8]); 19] = [
 
 /// Comments.
 #[rattlefmt::skip]
-pub const COMMENTS: [(&[u8], &[u8]); 13] = [
+pub static COMMENTS: [(&[u8], &[u8]); 13] = [
     (b"/**/", b""),
     (b"/***/a", b"1:6 w a\n"),
     (b"/*/ a */b", b"1:9 w b\n"),
@@ -192,7 +192,7 @@ pub const COMMENTS: [(&[u8], &[u8]); 13] = [
 
 /// Comments that stay open.
 #[rattlefmt::skip]
-pub const OPEN_COMMENTS: [(&[u8], &[u8]); 5] = [
+pub static OPEN_COMMENTS: [(&[u8], &[u8]); 5] = [
     (b"/*", b"702 at 1"),
     (b"\n/* a\n*", b"702 at 2"),
     (b"a\n\n/* b\n\nc\n", b"702 at 3"),
@@ -202,7 +202,7 @@ pub const OPEN_COMMENTS: [(&[u8], &[u8]); 5] = [
 
 /// Lines that are passed over.
 #[rattlefmt::skip]
-pub const PASSED_LINES: [(&[u8], &[u8]); 7] = [
+pub static PASSED_LINES: [(&[u8], &[u8]); 7] = [
     (b"#include \"x\"\n # include <x>\n\t#\tinclude@\n", b"1:1 n #include \"x\"\n2:2 n # include <x>\n3:2 n #\tinclude@\n"),
     (b"#include <x> /*\na", b"1:1 n #include <x> /*\n2:1 w a\n"),
     (b"#define PERL_NO_GET_CONTEXT\n #\tdefine \t PERL_NO_GET_CONTEXT \t", b"1:1 n #define PERL_NO_GET_CONTEXT\n2:2 n #\tdefine \t PERL_NO_GET_CONTEXT\n"),
@@ -214,7 +214,7 @@ pub const PASSED_LINES: [(&[u8], &[u8]); 7] = [
 
 /// Defines.
 #[rattlefmt::skip]
-pub const DEFINES: [(&[u8], &[u8]); 10] = [
+pub static DEFINES: [(&[u8], &[u8]); 10] = [
     (b"#define N 1", b"1:1 d N 1d\n"),
     (b" # \t define  N  0x1FuL", b"706 at 1"),
     (b"#define N 0x1FUL // x", b"1:1 d N 31xul\n"),
@@ -229,7 +229,7 @@ pub const DEFINES: [(&[u8], &[u8]); 10] = [
 
 /// Defines that are refused.
 #[rattlefmt::skip]
-pub const REFUSED_DEFINES: [(&[u8], &[u8]); 30] = [
+pub static REFUSED_DEFINES: [(&[u8], &[u8]); 30] = [
     (b"#define", b"706 at 1"),
     (b"#define ", b"706 at 1"),
     (b"#define N", b"706 at 1"),
@@ -264,14 +264,14 @@ pub const REFUSED_DEFINES: [(&[u8], &[u8]); 30] = [
 
 /// Defines of an integer that is too wide.
 #[rattlefmt::skip]
-pub const WIDE_DEFINES: [(&[u8], &[u8]); 2] = [
+pub static WIDE_DEFINES: [(&[u8], &[u8]); 2] = [
     (b"#define N 18446744073709551616", b"703 at 1"),
     (b"#define N 0x10000000000000000 x", b"703 at 1"),
 ];
 
 /// Signs that begin no directive.
 #[rattlefmt::skip]
-pub const STRAY_SIGNS: [(&[u8], &[u8]); 14] = [
+pub static STRAY_SIGNS: [(&[u8], &[u8]); 14] = [
     (b"#", b"701 at 1"),
     (b"#if 1", b"701 at 1"),
     (b"#include1", b"701 at 1"),

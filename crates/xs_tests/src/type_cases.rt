@@ -1,7 +1,7 @@
 //! Texts of C and their faults in the types stage.
 ghost use Rattle.std.specs.Prelude.{◌<◌, ◌-◌, ◌^◌, IfOk, length};
 
-use crate::type_tables::{BODIES, FILES, Row};
+use crate::type_tables::{BODIES, FILES, OPERATORS, Row};
 use std::alloc::Global;
 use std::process::Abort;
 use std::test::Fail;
@@ -82,6 +82,14 @@ const BACK: &str = "@}@XS(boot_M) { dXSARGS; newXS_deffile(\"M::k\", XS_M_k); XS
 #[test]
 fn bodies(rt: HostRuntime) -> Result<(), Fail> {
     for row in &BODIES {
+        hold_row(&rt, rt.alloc(), FRONT, row, BACK)?;
+    }
+    Ok(())
+}
+
+#[test]
+fn operators(rt: HostRuntime) -> Result<(), Fail> {
+    for row in &OPERATORS {
         hold_row(&rt, rt.alloc(), FRONT, row, BACK)?;
     }
     Ok(())

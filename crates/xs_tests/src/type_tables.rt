@@ -6,7 +6,7 @@ pub type Row = (&'static str, u16, u32, &'static str);
 
 /// A statement behind `dXSARGS;`, from line 4 on, of an XS function.
 #[rattlefmt::skip]
-pub const BODIES: [Row; 161] = [
+pub static BODIES: [Row; 161] = [
     ("int a; a = items;", 0, 0, ""),
     ("IV a; SV *s; s = ST(0); a = SvIV(s); sv_setiv(s, a + 1);", 0, 0, ""),
     ("int a; { int b; b = a; } a = 1;", 0, 0, ""),
@@ -99,7 +99,7 @@ pub const BODIES: [Row; 161] = [
     ("while (items) { switch (items) { default: continue; } }", 0, 0, ""),
     ("switch (items) { case 1: break; } break;", 807, 4, "break"),
     ("items++;", 999, 4, ""),
-    ("(items);", 999, 4, ""),
+    ("(items);", 0, 0, ""),
     ("items ? 1 : 2; ST(\"a\");", 803, 4, ""),
     ("if (items) nope; else@nope2;", 801, 4, "nope"),
     ("if (items) ; else@nope;", 801, 5, "nope"),
@@ -170,9 +170,49 @@ pub const BODIES: [Row; 161] = [
     ("1; 2; 0x10; 010;", 0, 0, ""),
 ];
 
+/// Characters, parentheses, operators and choices, in the same place.
+#[rattlefmt::skip]
+pub static OPERATORS: [Row; 35] = [
+    ("'a'; 'b' + '\\xff'; int c = 'c'; c = '0' - c;", 0, 0, ""),
+    ("char c = 'c'; c == 'd';", 0, 0, ""),
+    ("ST('a') = 'b';", 803, 4, ""),
+    ("((items)); int a = (items + 1); a = (a);", 0, 0, ""),
+    ("(nope) +@x;", 801, 4, "nope"),
+    ("sv_setiv((1), (2));", 803, 4, ""),
+    ("int a = 1; a = -a + ~items - !a * +1;", 0, 0, ""),
+    ("-ST(0);", 803, 4, ""),
+    ("~sv_newmortal();", 803, 4, ""),
+    ("!ST(0); !!items; SV *s = ST(0); if (!s) ;", 0, 0, ""),
+    ("!sv_setiv(ST(0), 1);", 803, 4, ""),
+    ("-@nope;", 801, 5, "nope"),
+    ("bool b = 1; b = -b;", 0, 0, ""),
+    ("items && ST(0) || !items && 1;", 0, 0, ""),
+    ("int a = items && sv_newmortal() || 0; a = a || a;", 0, 0, ""),
+    ("items && sv_setiv(ST(0), 1);", 803, 4, ""),
+    ("sv_setiv(ST(0), 1) ||@items;", 803, 4, ""),
+    ("nope &&@x;", 801, 4, "nope"),
+    ("items ||@nope;", 801, 5, "nope"),
+    ("ST(0) == ST(1); ST(0) != sv_newmortal(); int i = ST(0) == ST(1); i = i;", 0, 0, ""),
+    ("ST(0) < ST(1);", 803, 4, ""),
+    ("ST(0) + ST(1);", 803, 4, ""),
+    ("ST(0) == 1;", 803, 4, ""),
+    ("1 != ST(0);", 803, 4, ""),
+    ("sv_setiv(ST(0), 1) == sv_setiv(ST(0), 1);", 803, 4, ""),
+    ("items ? 1 : 2u; unsigned char c = 1; c = items ? c : 'a';", 0, 0, ""),
+    ("SV *s; s = items ? s : ST(0); int i = items ? 1 : items ? 2 : 3; i = i;", 0, 0, ""),
+    ("items ? sv_setiv(ST(0), 1) : XSRETURN(1);", 0, 0, ""),
+    ("items ? ST(0) : 1;", 803, 4, ""),
+    ("items ? sv_setiv(ST(0), 1) :@1;", 803, 4, ""),
+    ("sv_setiv(ST(0), 1) ? 1 : 2;", 803, 4, ""),
+    ("SV *s; int i; i =@items ? s : s;", 803, 4, ""),
+    ("items ? nope :@x;", 801, 4, "nope"),
+    ("nope ?@x : y;", 801, 4, "nope"),
+    ("items ?@1 :@nope;", 801, 6, "nope"),
+];
+
 /// Whole files.
 #[rattlefmt::skip]
-pub const FILES: [Row; 16] = [
+pub static FILES: [Row; 16] = [
     ("XS(f) { dXSARGS; }@XS(f) { dXSARGS; }@XS(boot_M) { dXSARGS; XSRETURN_YES; }", 804, 2, "f"),
     ("XS(f) { dXSARGS; }@XS(f) { dXSARGS; nope; }@XS(boot_M) { dXSARGS; XSRETURN_YES; }", 801, 2, "nope"),
     ("XS(f) { dXSARGS;@nope; }@XS(g) { dXSARGS; x; }@XS(boot_M) { dXSARGS; XSRETURN_YES; }", 801, 2, "nope"),

@@ -77,7 +77,7 @@ fn shown(alloc: Global, src: &[u8], words: &[u8]) -> Result<Bytes, Memory> {
 
 // Typemaps, what is asked, and the answers: kinds, and code with its line and its lines; or the
 // line and the code of the fault after `F`.
-const CASES: [(&str, &str, &str); 30] = [
+static CASES: [(&str, &str, &str); 30] = [
     (
         "",
         "int\nI T_IV\nO T_BOOL\nO T_SYSRET\nI T_SYSRET\nI T_NONE\nnone",

@@ -27,7 +27,7 @@ const UV_HALF: u64 = 9223372036854775808;
 
 const UV_MAX: u64 = 18446744073709551615;
 
-pub const SUMS: [(Op, Kind, i128, Kind, i128, Kind, i128); 14] = [
+pub static SUMS: [(Op, Kind, i128, Kind, i128, Kind, i128); 14] = [
     (Add, I8, 127, I8, 1, I32, 128),
     (Add, U8, 255, U8, 1, I32, 256),
     (Add, I16, 32767, I16, 1, I32, 32768),
@@ -44,7 +44,7 @@ pub const SUMS: [(Op, Kind, i128, Kind, i128, Kind, i128); 14] = [
     (Subtract, Bool, 0, Bool, 1, I32, -1),
 ];
 
-pub const PRODUCTS: [(Op, Kind, i128, Kind, i128, Kind, i128); 7] = [
+pub static PRODUCTS: [(Op, Kind, i128, Kind, i128, Kind, i128); 7] = [
     (Multiply, I8, 127, I8, 2, I32, 254),
     (Multiply, U32, 4294967295, U32, 2, U32, 4294967294),
     (Multiply, U64, U64_MAX, U64, 2, U64, 18446744073709551614),
@@ -54,7 +54,7 @@ pub const PRODUCTS: [(Op, Kind, i128, Kind, i128, Kind, i128); 7] = [
     (Multiply, U32, 4294967295, U32, 4294967295, U32, 1),
 ];
 
-pub const DIVISIONS: [(Op, Kind, i128, Kind, i128, Kind, i128); 11] = [
+pub static DIVISIONS: [(Op, Kind, i128, Kind, i128, Kind, i128); 11] = [
     (Divide, I8, -128, I8, -1, I32, 128),
     (Remainder, I8, -128, I8, -1, I32, 0),
     (Divide, I32, -7, I32, 2, I32, -3),
@@ -68,7 +68,7 @@ pub const DIVISIONS: [(Op, Kind, i128, Kind, i128, Kind, i128); 11] = [
     (Divide, U64, U64_MAX, I32, -1, U64, 1),
 ];
 
-pub const SHIFTS: [(Op, Kind, i128, Kind, i128, Kind, i128); 13] = [
+pub static SHIFTS: [(Op, Kind, i128, Kind, i128, Kind, i128); 13] = [
     (ShiftRight, I8, -128, I32, 1, I32, -64),
     (ShiftRight, U32, 4294967295, I32, 1, U32, 2147483647),
     (ShiftRight, I64, I64_MIN, I32, 1, I64, -4611686018427387904),
@@ -84,7 +84,7 @@ pub const SHIFTS: [(Op, Kind, i128, Kind, i128, Kind, i128); 13] = [
     (ShiftRight, U32, 4294967295, I32, 31, U32, 1),
 ];
 
-pub const BITS: [(Op, Kind, i128, Kind, i128, Kind, i128); 8] = [
+pub static BITS: [(Op, Kind, i128, Kind, i128, Kind, i128); 8] = [
     (BitAnd, I8, -128, I8, 127, I32, 0),
     (BitXor, I8, -128, I8, 127, I32, -1),
     (BitOr, I8, -128, I8, 127, I32, -1),
@@ -95,7 +95,7 @@ pub const BITS: [(Op, Kind, i128, Kind, i128, Kind, i128); 8] = [
     (BitXor, I32, -6, I32, 11, I32, -15),
 ];
 
-pub const COMPARISONS: [(Op, Kind, i128, Kind, i128, Kind, i128); 13] = [
+pub static COMPARISONS: [(Op, Kind, i128, Kind, i128, Kind, i128); 13] = [
     (Less, I8, -128, I8, 127, I32, 1),
     (Less, I64, I64_MIN, I64, I64_MAX, I32, 1),
     (Less, U64, 0, U64, U64_MAX, I32, 1),
@@ -111,7 +111,7 @@ pub const COMPARISONS: [(Op, Kind, i128, Kind, i128, Kind, i128); 13] = [
     (Less, I32, -2147483648, I64, -2147483649, I32, 0),
 ];
 
-pub const UNARY: [(UnOp, Kind, i128, Kind, i128); 17] = [
+pub static UNARY: [(UnOp, Kind, i128, Kind, i128); 17] = [
     (Minus, I8, -128, I32, 128),
     (Complement, I8, -128, I32, 127),
     (Minus, U8, 255, I32, -255),
@@ -131,7 +131,7 @@ pub const UNARY: [(UnOp, Kind, i128, Kind, i128); 17] = [
     (Not, Bool, 1, I32, 0),
 ];
 
-pub const TRAPS: [(Op, Kind, i128, Kind, i128, Trap); 35] = [
+pub static TRAPS: [(Op, Kind, i128, Kind, i128, Trap); 35] = [
     (Add, I32, 2147483647, I32, 1, Overflow),
     (Add, I64, I64_MAX, I64, 1, Overflow),
     (Subtract, I64, I64_MIN, I64, 1, Overflow),
@@ -169,12 +169,12 @@ pub const TRAPS: [(Op, Kind, i128, Kind, i128, Trap); 35] = [
     (ShiftLeft, U8, 255, I32, 24, Overflow),
 ];
 
-pub const UNARY_TRAPS: [(UnOp, Kind, i128, Trap); 2] = [
+pub static UNARY_TRAPS: [(UnOp, Kind, i128, Trap); 2] = [
     (Minus, I32, -2147483648, Overflow),
     (Minus, I64, I64_MIN, Overflow),
 ];
 
-pub const CONVERSIONS: [(Kind, i128, i128); 16] = [
+pub static CONVERSIONS: [(Kind, i128, i128); 16] = [
     (I8, -129, 127),
     (I8, 128, -128),
     (U8, -1, 255),
@@ -193,7 +193,7 @@ pub const CONVERSIONS: [(Kind, i128, i128); 16] = [
     (Bool, 2, 1),
 ];
 
-pub const LITERALS: [(Base, bool, Length, u64, Kind); 24] = [
+pub static LITERALS: [(Base, bool, Length, u64, Kind); 24] = [
     (Decimal, false, Int, 2147483647, I32),
     (Decimal, false, Int, 2147483648, I64),
     (Decimal, false, Int, 4294967296, I64),
@@ -220,7 +220,7 @@ pub const LITERALS: [(Base, bool, Length, u64, Kind); 24] = [
     (Hexadecimal, false, Long, 9223372036854775808, U64),
 ];
 
-pub const TEXTS: [(&str, i64, u64, bool); 19] = [
+pub static TEXTS: [(&str, i64, u64, bool); 19] = [
     ("", 0, 0, false),
     ("0", 0, 0, false),
     ("00", 0, 0, true),
@@ -242,14 +242,14 @@ pub const TEXTS: [(&str, i64, u64, bool); 19] = [
     ("1e3", 1, 1, true),
 ];
 
-pub const UVS: [(u64, i64, &str); 4] = [
+pub static UVS: [(u64, i64, &str); 4] = [
     (0, 0, "0"),
     (UV_HALF - 1, IV_MAX, "9223372036854775807"),
     (UV_HALF, IV_MAX, "9223372036854775808"),
     (UV_MAX, IV_MAX, "18446744073709551615"),
 ];
 
-pub const IVS: [(i64, u64, &str); 4] = [
+pub static IVS: [(i64, u64, &str); 4] = [
     (0, 0, "0"),
     (-1, UV_MAX, "-1"),
     (IV_MAX, UV_HALF - 1, "9223372036854775807"),

@@ -2,9 +2,9 @@ use Rattle.std.proofs.Common.{◌≡◌, ◌∙◌, ◌+◌, ◌<◌, ap, sym, l
 use Rattle.xs_cstmt.specs.StatementViews.{declarator_tree}
 use Rattle.xs_ctree.specs.Functions.{stmt_in}
 use Rattle.xs_ctree.specs.Growth.{HasStmt}
-use Rattle.xs_ccheck.specs.Checked.{more}
+use Rattle.xs_ctypes.specs.Checked.{more}
 use Rattle.xs_ccheck.specs.Resolving.{HaveStmts}
-use Rattle.xs_ccheck.specs.Scopes.{declarators_behind, name_behind}
+use Rattle.xs_ctypes.specs.Scopes.{declarators_behind, name_behind}
 use Rattle.xs_ccheck.specs.StmtTyping.{declarator, declarators}
 use Rattle.xs_ccheck.proofs.Collecting.{step}
 use Rattle.xs_ccheck.proofs.Lists.{stmts_last}

@@ -2,7 +2,7 @@ use Rattle.std.proofs.Common.{◌≡◌, drop, map}
 use Rattle.xs_cstmt.specs.StatementViews.{declarator_tree}
 use Rattle.xs_ctree.specs.Functions.{stmt_in}
 use Rattle.xs_ccheck.specs.Resolving.{HaveStmts}
-use Rattle.xs_ccheck.specs.Scopes.{declarators_behind}
+use Rattle.xs_ctypes.specs.Scopes.{declarators_behind}
 use Rattle.xs_ccheck.specs.StmtTyping.{declarators}
 use Rattle.xs_ccheck.proofs.Collecting.{Gathers}
 use Rattle.xs_ccheck.proofs.declarations.declarators.Given as goal

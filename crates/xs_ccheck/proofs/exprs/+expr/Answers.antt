@@ -1,9 +1,11 @@
-use Rattle.std.proofs.Common.{◌∙◌, ◌+◌, ◌<◌, sym, subst, length, map, drop, arith}
-use Rattle.xs_cexpr.specs.ExpressionTree.{Set, Two, exprs_of}
+use Rattle.std.proofs.Common.{◌≡◌, ◌∙◌, ◌+◌, ◌<◌, sym, ap, subst, length, map, drop, arith}
+use Rattle.xs_cexpr.specs.ExpressionTree.{Set, exprs_of}
 use Rattle.xs_cexpr.specs.ExpressionViews.{expr_tree, place_tree}
 use Rattle.xs_ccheck.specs.ExprTyping.{expr, exprs}
 use Rattle.xs_ccheck.specs.Resolving.{GivesExpr, HasTyped, HaveTyped, typed_in}
 use Rattle.xs_ccheck.proofs.Collecting.{step}
+use Rattle.xs_ctypes.specs.Joining.{joined}
+use Rattle.xs_ccheck.proofs.ExprParts.{choice_resolves}
 use Rattle.xs_ccheck.proofs.ExprSizes.{item_smaller}
 use Rattle.xs_ccheck.proofs.Lists.{typed_last}
 use Rattle.xs_ccheck.proofs.Loops.{assignment, exprs_next, operation}
@@ -19,15 +21,24 @@ assign-returns-in_ok-to-in-None t c =
     (assignment vs c.args.line c.args.typed.now c.place_in-to.new.typed c.expr-x.new.typed c.assigned.new.typed c.assigned.result given.x c.expr-x.result
     place value given.to c.place_in-to.result c.place_in-to.ensures c.expr-x.ensures (sym c.both.ensures ∙ given.was) c.assigned.ensures)
 
-pub binary-returns-in_ok-x-in-On : goal.binary-returns-in_ok-x-in-On
-binary-returns-in_ok-x-in-On t c =
+pub binary-returns : goal.binary-returns
+binary-returns t c =
     let vs = c.args.scope.now.variables in
     let a = expr_tree c.args.a.now in
     let b = expr_tree c.args.b.now in
-    let given = c.in_ok-x-in-On in
-    subst (λ o. GivesExpr c.operated.result c.args.typed.now c.operated.new.typed (expr vs (Two c.args.line o a b))) (sym c.in-On.is)
-    (operation vs c.args.line c.args.typed.now c.expr-x.new.typed c.expr-y.new.typed c.operated.new.typed c.operated.result given.y c.expr-y.result
-    c.in-On.op a b given.x c.expr-x.result c.expr-x.ensures c.expr-y.ensures (sym c.both.ensures ∙ given.was) c.operated.ensures)
+    let given = c.in_ok-x in
+    operation vs c.args.line c.args.typed.now c.expr-x.new.typed c.expr-y.new.typed c.combined.new.typed c.combined.result given.y c.expr-y.result
+    c.args.op a b given.x c.expr-x.result c.expr-x.ensures c.expr-y.ensures (sym c.both.ensures ∙ given.was) c.combined.ensures
+
+pub choice-returns : goal.choice-returns
+choice-returns t c =
+    let vs = c.args.scope.now.variables in
+    let given = c.in_ok-test in
+    let are : joined c.expr-test.result (joined c.expr-x.result c.expr-y.result) ≡ c.both.result =
+    ap (joined c.expr-test.result) (sym c.both-values.ensures) ∙ sym c.both.ensures in
+    choice_resolves vs c.args.line (expr_tree c.args.test.now) (expr_tree c.args.a.now) (expr_tree c.args.b.now) c.args.typed.now c.expr-test.new.typed
+    c.expr-x.new.typed c.expr-y.new.typed c.chosen.new.typed c.expr-test.result c.expr-x.result c.expr-y.result (given.test, (given.x, given.y))
+    c.chosen.result c.expr-test.ensures c.expr-x.ensures c.expr-y.ensures (are ∙ given.was) c.chosen.ensures
 
 pub exprs-expr-x-requires : goal.exprs-expr-x-requires
 exprs-expr-x-requires t c =

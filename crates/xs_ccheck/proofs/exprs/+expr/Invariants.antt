@@ -16,6 +16,9 @@ decreases-assign l = place_size (place_tree l.place.now) + expr_size (expr_tree 
 abbrev pub decreases-binary : goal.decreases-binary
 decreases-binary l = expr_size (expr_tree l.a.now) + expr_size (expr_tree l.b.now) + 1
 
+abbrev pub decreases-choice : goal.decreases-choice
+decreases-choice l = expr_size (expr_tree l.test.now) + (expr_size (expr_tree l.a.now) + expr_size (expr_tree l.b.now)) + 1
+
 abbrev pub decreases-call : goal.decreases-call
 decreases-call l = exprs_size (exprs_of (map expr_tree l.args.now)) + 1
 

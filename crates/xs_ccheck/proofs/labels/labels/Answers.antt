@@ -1,5 +1,5 @@
 use Rattle.std.proofs.Common.{◌+◌, ◌<◌, length, drop, arith}
-use Rattle.xs_ccheck.specs.Checked.{judged}
+use Rattle.xs_ctypes.specs.Checked.{judged}
 use Rattle.xs_ccheck.specs.Resolving.{HasLabel, HaveLabels, label_in}
 use Rattle.xs_ccheck.specs.StmtTyping.{label_number, labels, line_of_label}
 use Rattle.xs_ccheck.proofs.Collecting.{step}

@@ -5,10 +5,10 @@ use Rattle.xs_cstmt.specs.StatementTree.{groups_of, stmts_of}
 use Rattle.xs_cstmt.specs.StatementViews.{for_tree, group_tree, stmt_tree}
 use Rattle.xs_ctree.specs.Functions.{stmt_in}
 use Rattle.xs_ctree.specs.Growth.{HasStmt}
-use Rattle.xs_ccheck.specs.Checked.{more}
-use Rattle.xs_ccheck.specs.Joining.{joined}
+use Rattle.xs_ctypes.specs.Checked.{more}
+use Rattle.xs_ctypes.specs.Joining.{joined}
 use Rattle.xs_ccheck.specs.Resolving.{ForEnds, GivesGroup, GivesLabels, GivesStmt, GivesStmts, HasGroup, HaveGroups, HaveStmts, UnlessMemory, group_in}
-use Rattle.xs_ccheck.specs.Scopes.{declared_in, groups_behind, knowing, scope_behind, scopes_behind}
+use Rattle.xs_ctypes.specs.Scopes.{declared_in, groups_behind, knowing, scope_behind, scopes_behind}
 use Rattle.xs_ccheck.specs.StmtTyping.{group, groups, labels, stmt, stmts}
 use Rattle.xs_ccheck.proofs.Collecting.{step}
 use Rattle.xs_ccheck.proofs.GroupParts.{body_smaller, group_body, group_given, group_labels, group_unless}

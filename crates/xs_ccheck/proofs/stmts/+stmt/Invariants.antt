@@ -3,7 +3,7 @@ use Rattle.xs_cstmt.specs.StatementTree.{groups_of, stmts_of}
 use Rattle.xs_cstmt.specs.StatementViews.{group_tree, stmt_tree}
 use Rattle.xs_ctree.specs.Functions.{stmt_in}
 use Rattle.xs_ccheck.specs.Resolving.{HaveGroups, HaveStmts, group_in}
-use Rattle.xs_ccheck.specs.Scopes.{groups_behind, scopes_behind}
+use Rattle.xs_ctypes.specs.Scopes.{groups_behind, scopes_behind}
 use Rattle.xs_ccheck.specs.StmtTyping.{groups, stmts}
 use Rattle.xs_ccheck.proofs.Collecting.{Gathers}
 use Rattle.xs_ccheck.proofs.StmtSizes.{groups_size, stmt_size, stmts_size}
