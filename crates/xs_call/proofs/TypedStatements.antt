@@ -1,5 +1,5 @@
 -- The statements of the intended tree, list by list: each becomes the code that it is meant to be.
-use Rattle.std.proofs.Common.{◌≡◌, ℕ, ◌+◌, ◌≤◌, true, false, List, [], ◌∷◌, ◌++◌, codes, map, length, fold, pos, slice_get, Some, None, refl, sym, ap, ap₂, subst, append_assoc, append-nil, ◌∙◌, arith}
+use Rattle.std.proofs.Common.{◌≡◌, ℕ, ◌+◌, ◌≤◌, true, false, List, [], ◌∷◌, ◌++◌, codes, map, length, fold, pos, slice_get, Option, Some, None, refl, sym, ap, ap₂, subst, append_assoc, append-nil, ◌∙◌, arith}
 use Rattle.std.proofs.lemmas.List.{length-map, length_push, map-append}
 use Rattle.std.proofs.lemmas.Bool.Decides.{nat_tests}
 use Rattle.std.proofs.lemmas.Int.{ints}
@@ -24,12 +24,12 @@ use Rattle.xs_ctree.specs.TypedTree as code
 use Rattle.xs_ctree.specs.TypedTree.{Expr, Variable, ItemCount, Assign, Binary, Cast, Api, Usage, ToVariable, ToItem, Stmt, Effect, Quit, Register, nothing, bare_expr, bare_slot, bare_stmt}
 use Rattle.xs_perlapi.specs.declared.row.Row.TheVariants.{StRead, SvIv, SvNewMortal, SvSetIv, XsReturn, XsReturnYes}
 use Rattle.xs_ccheck.specs.declared.enclosing.Where.{Where}
-use Rattle.xs_ctypes.specs.Checked.{Good, more}
-use Rattle.xs_ccheck.specs.ExprTyping.{TypedExpr, as_typed, expr, exprs, literal}
+use Rattle.xs_ctypes.specs.Checked.{Good, behind, judged, more}
+use Rattle.xs_ccheck.specs.ExprTyping.{TypedExpr, as_typed, cast, converted, expr, exprs, is_text_type, letter_in, literal}
 use Rattle.xs_ctypes.specs.Scopes.{Local, Scope, declared_in, is_in_use, knowing, new_variable, next_slot, outside, scope_behind, scopes_behind, variable_of}
 use Rattle.xs_ccheck.specs.StmtTyping.{effect, stmt, stmts}
 use Rattle.xs_ctypes.specs.FileNames.{FileNames, index_from, index_of}
-use Rattle.xs_ctypes.specs.TypeNames.{type_named}
+use Rattle.xs_ctypes.specs.TypeNames.{cast_named, type_meant, type_named}
 use Rattle.xs_values.specs.Types.{number_types}
 use Rattle.xs_ccheck.proofs.Unlined.{effect_bare, stmts_bare}
 use Rattle.xs_perlapi.specs.Table.{is_interface_word}
@@ -70,6 +70,11 @@ pub record Is (variables : List Local) (a : ExprTree) (t : Expr) (ty : ValueType
   pub tree : Expr
   pub is : expr variables a ≡ Good (as_typed tree ty)
   pub same : bare_expr tree ≡ t
+
+-- a cast to a type that is no text
+cast_plain : (letter : Option ℕ) (to : Option ValueType) (x : TypedExpr) → is_text_type to ≡ false → cast letter to x ≡ converted to x
+cast_plain None to x h = refl
+cast_plain (Some slot) to x h = rw h refl
 
 module _ (variables : List Local) where
   number_typed : (line v : ℕ) → v ≤ greatest_int → Is variables (number line v) (int_literal v) (Number I32)
@@ -116,13 +121,23 @@ module _ (variables : List Local) where
 
   as_int_typed : (line : ℕ) (a : ExprTree) (t : Expr) → Is variables a t (Number I64)
       → Is variables (syntax_expr.Cast line (int_type line) a) (Cast (Number I32) t) (Number I32)
-  unfolding expr type_named number_types
-  as_int_typed line a t h = record { tree = Cast (Number I32) h.tree; is = rw h.is refl; same = ap (Cast (Number I32)) h.same }
+  unfolding expr cast_named type_meant number_types
+  as_int_typed line a t h = record {
+    tree = Cast (Number I32) h.tree;
+    is = ap (λ c. behind c (λ x. judged line (cast (letter_in variables a) (Some (Number I32)) x))) h.is
+        ∙ ap (judged line) (cast_plain (letter_in variables a) (Some (Number I32)) (as_typed h.tree (Number I64)) refl);
+    same = ap (Cast (Number I32)) h.same;
+  }
 
   as_iv_typed : (line : ℕ) (a : ExprTree) (t : Expr) → Is variables a t (Number I32)
       → Is variables (syntax_expr.Cast line (iv_type line) a) (Cast (Number I64) t) (Number I64)
-  unfolding expr type_named number_types
-  as_iv_typed line a t h = record { tree = Cast (Number I64) h.tree; is = rw h.is refl; same = ap (Cast (Number I64)) h.same }
+  unfolding expr cast_named type_meant number_types
+  as_iv_typed line a t h = record {
+    tree = Cast (Number I64) h.tree;
+    is = ap (λ c. behind c (λ x. judged line (cast (letter_in variables a) (Some (Number I64)) x))) h.is
+        ∙ ap (judged line) (cast_plain (letter_in variables a) (Some (Number I64)) (as_typed h.tree (Number I32)) refl);
+    same = ap (Cast (Number I64)) h.same;
+  }
 
   argument_typed : (line place : ℕ) → place ≤ greatest_int
       → Is variables (int_argument line place) (Cast (Number I32) (row_of SvIv (row_of StRead (int_literal place ∷ []) ∷ []))) (Number I32)
@@ -289,7 +304,7 @@ module _ (names : FileNames) (w : Where) where
   pub int_declared : (variables : List Local) (line : ℕ) (name : List ℕ) → is_in_use variables name ≡ false
       → IsStmt names w (within variables) (within (variables ++ int_local line name (length variables) ∷ [])) (declared_int line name)
       (code.Declare 0 (length variables))
-  unfolding stmt scope_behind type_named number_types
+  unfolding stmt scope_behind type_named type_meant number_types
   int_declared variables line name h = record {
     tree = code.Declare line (length (within variables).slots);
     is = rw h refl;
@@ -300,7 +315,7 @@ module _ (names : FileNames) (w : Where) where
   pub scalar_declared : (variables : List Local) (line : ℕ) (name : List ℕ) → is_in_use variables name ≡ false
       → IsStmt names w (within variables) (within (variables ++ scalar_local line name (length variables) ∷ [])) (declared line (codes "SV") 1 name)
       (code.Declare 0 (length variables))
-  unfolding stmt scope_behind type_named number_types
+  unfolding stmt scope_behind type_named type_meant number_types
   scalar_declared variables line name h = record {
     tree = code.Declare line (length (within variables).slots);
     is = rw h refl;

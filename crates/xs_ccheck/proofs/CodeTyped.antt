@@ -1,19 +1,20 @@
 -- The code of a file has the types that the rules of its forms give.
 use Rattle.std.proofs.Common.{◌≡◌, ℕ, Bool, true, false, cond, List, [], ◌∷◌, map, length, codes, Option, None, Some, Ok, slice_get, refl, subst, arith}
-use Rattle.std.specs.Prelude.{◌&&◌, ◌||◌, nat_eq, unwrap_or}
-use Rattle.std.specs.Option.{option_map}
+use Rattle.std.specs.Prelude.{◌&&◌, ◌||◌, nat_eq, not, unwrap_or}
+use Rattle.std.specs.Option.{option_map, is_some}
+use Rattle.std.proofs.lemmas.Option.{same_Some}
 use Rattle.std.specs.Str.{bytes_eq}
 use Rattle.std.proofs.lemmas.Bool.{and_parts}
 use Rattle.std.proofs.lemmas.Bool.Decides.{nat_tests}
 use Rattle.xs_base.specs.declared.fault_codes.TheConstants.{DECLARED_TWICE, TYPES_DIFFER, WORD_NOT_ALLOWED, WRONG_NUMBER_OF_ARGUMENTS}
-use Rattle.xs_values.specs.declared.kind.Kind.TheVariants.{I32}
+use Rattle.xs_values.specs.declared.kind.Kind.TheVariants.{I8, I32}
 use Rattle.xs_values.specs.declared.operator.Op.{Op}
 use Rattle.xs_values.specs.declared.unary_operator.UnOp.{UnOp}
 use Rattle.xs_values.specs.declared.unary_operator.UnOp.TheVariants as unary
 use Rattle.xs_cinput.specs.declared.tree.BinaryOp.{BinaryOp}
 use Rattle.xs_cinput.specs.declared.tree.BinaryOp.TheVariants as c
 use Rattle.xs_cexpr.specs.ExpressionTree as syntax
-use Rattle.xs_cexpr.specs.ExpressionTree.{ExprTree, ExprTrees, PlaceTree, VarPlace, StPlace}
+use Rattle.xs_cexpr.specs.ExpressionTree.{ExprTree, ExprTrees, PlaceTree, VarPlace, TargetPlace, StPlace}
 use Rattle.xs_cstmt.specs.StatementTree as statement
 use Rattle.xs_cstmt.specs.StatementTree.{DeclaratorTree, FirstTree, StmtTree, StmtTrees, GroupTrees}
 use Rattle.xs_cstmt.specs.declared.tree.PerlForm.{PerlForm}
@@ -22,7 +23,9 @@ use Rattle.xs_cstmt.specs.declared.tree.PerlWord.{PerlWord}
 use Rattle.xs_cstmt.specs.declared.tree.PerlWord.TheVariants as word
 use Rattle.xs_csyn.specs.FileTree.{XsFunTree, FileTree}
 use Rattle.xs_perlapi.specs.declared.row.ApiType.{ApiType}
-use Rattle.xs_perlapi.specs.Table.{RowCall, row_named}
+use Rattle.xs_perlapi.specs.declared.row.Written.TheVariants as written
+use Rattle.xs_perlapi.specs.Table.{RowCall, row_named, word_written}
+use Rattle.xs_ctree.specs.declared.node.StepOp.{StepOp}
 use Rattle.xs_ctree.specs.declared.value_type.Slot.{Slot}
 use Rattle.xs_ctree.specs.declared.value_type.ValueType.{ValueType}
 use Rattle.xs_ctree.specs.declared.value_type.ValueType.TheVariants as type_of
@@ -32,16 +35,16 @@ use Rattle.xs_ccheck.specs.declared.enclosing.Where.{Where}
 use Rattle.xs_ctypes.specs.Checked.{Checked, Good, Fine, Judged, Wrong}
 use Rattle.xs_ccheck.specs.CodeTypes as typing
 use Rattle.xs_ccheck.specs.CodeTypes.{HasType, AreOperands, IsTarget, IsTest, IsEach, IsTyped, AreTyped, AreGroups, result_of}
-use Rattle.xs_ccheck.specs.ExprTyping.{TypedExpr, TypedTarget, all_fit, as_typed, calculated, called, cast, combined, compared, expr, exprs, is_cv, is_equal, name_meant, option_expr, place_in, prefixed, row_called, text_in, truth, typed, usage, usage_of, usage_word, variable_place}
+use Rattle.xs_ccheck.specs.ExprTyping.{TypedExpr, TypedTarget, address_meant, all_fit, as_typed, back_step, calculated, called, cast, char_slot, combined, compared, converted, element, expr, exprs, front_step, is_cv, is_equal, is_text_type, letter_in, name_meant, option_expr, other_address, place_in, pointed, prefixed, row_called, set_to, stepped, target_of, target_place, text_in, truth, typed, usage, usage_of, usage_word, variable_place}
 use Rattle.xs_ccheck.specs.FileTyping.{entry_of, sort_of, typed_of, where_in, with_entry}
 use Rattle.xs_ctypes.specs.FileNames.{FileNames, index_of, is_boot_name}
 use Rattle.xs_ctypes.specs.Scopes.{Local, Scope, beginning, declared_in, declarators_behind, first_behind, groups_behind, is_in_use, name_behind, new_variable, next_slot, scope_behind, scopes_behind, variable_of, with_variable}
 use Rattle.xs_ccheck.specs.StmtTyping.{TypedGroup, begun, conditional, declaration, declarator, declarators, declared, first_part, for_loop, function_end, groups, groups_of, in_group, in_order, in_turn, is_given, is_test, labels, may_return, perl, perl_word, quits, registered, stated, stmt, stmts, switched, test_of, unset}
-use Rattle.xs_ctypes.specs.TypeNames.{type_named}
-use Rattle.xs_ctypes.specs.ValueTypes.{are_conditions, are_numbers, casts, compares, goes_into, is_condition, is_equality, is_number, is_operand, of_choice, of_numbers, of_promoted}
+use Rattle.xs_ctypes.specs.TypeNames.{cast_named, type_named}
+use Rattle.xs_ctypes.specs.ValueTypes.{are_conditions, are_numbers, casts, compares, goes_into, is_address, is_char, is_condition, is_element, is_equality, is_number, is_operand, of_address, of_choice, of_numbers, of_pointed, of_promoted}
 use Rattle.xs_ccheck.proofs.GoodFunctions.{OfItem, each_function, function_of, statements_of}
 use Rattle.xs_ctypes.proofs.ScopesGrow.{Grown, Held, first_grown, groups_grown, name_grown, names_grown, scope_grown, scopes_grown, slot_last}
-use Rattle.xs_ccheck.proofs.WhereGood.{WhereFine, WhereGood, anything, behind_good, both_good, either_fine, fine_by, judged_good, three_good, two_wrongs}
+use Rattle.xs_ccheck.proofs.WhereGood.{WhereFine, WhereGood, anything, behind_good, both_good, either_fine, fine_by, fine_unless, judged_good, three_good, two_wrongs}
 
 module _ (slots : List Slot) where
   abbrev IsExpr : TypedExpr → Type 0
@@ -67,7 +70,45 @@ module _ (slots : List Slot) where
   variable_typed : (name : List ℕ) (o : Option Slot) → ((z : Slot) → o ≡ Some z → slice_get slots z.number ≡ Some z)
       → WhereFine IsPlace (variable_place name o)
   variable_typed name None h = two_wrongs IsPlace (bytes_eq name (codes "items")) _ _ _ _
-  variable_typed name (Some z) h = typing.to_variable (h z refl)
+  variable_typed name (Some z) h = fine_by IsPlace (not (is_address z.of_type)) (Fine _) _ _ (typing.to_variable (h z refl))
+
+  target_of_typed : (z : Slot) (t : ValueType) → z.of_type ≡ t → slice_get slots z.number ≡ Some z → WhereFine IsPlace (target_of z.number t)
+  target_of_typed z (type_of.Address kind) e h = typing.to_pointed h e
+  target_of_typed z type_of.Text e h = tt
+  target_of_typed z type_of.Place e h = tt
+  target_of_typed z _ e h = tt
+
+  target_typed : (name : List ℕ) (o : Option Slot) → ((z : Slot) → o ≡ Some z → slice_get slots z.number ≡ Some z) → WhereFine IsPlace (target_place name o)
+  target_typed name None h = two_wrongs IsPlace (bytes_eq name (codes "items")) _ _ _ _
+  target_typed name (Some z) h = target_of_typed z z.of_type refl (h z refl)
+
+  address_by : (z : Slot) (j : Judged ValueType) → of_address z.of_type ≡ j → slice_get slots z.number ≡ Some z
+      → WhereFine IsExpr (typed (λ u. tree.Address z.number) j)
+  address_by z (Fine t) e h = typing.address h e
+  address_by z (Wrong code word) e h = tt
+
+  other_address_typed : (name : List ℕ) → WhereFine IsExpr (other_address name)
+  other_address_typed name =
+      fine_unless IsExpr (is_some (word_written written.Address name)) _ _ _ (two_wrongs IsExpr (bytes_eq name (codes "items")) _ _ _ _)
+
+  address_typed : (name : List ℕ) (o : Option Slot) → ((z : Slot) → o ≡ Some z → slice_get slots z.number ≡ Some z) → WhereFine IsExpr (address_meant name o)
+  address_typed name None h = other_address_typed name
+  address_typed name (Some z) h = address_by z (of_address z.of_type) refl (h z refl)
+
+  pointed_typed : (line : ℕ) (x : TypedExpr) (j : Judged ValueType) → of_pointed x.of_type ≡ j → IsExpr x
+      → WhereFine IsExpr (typed (λ u. tree.Pointed line u x.tree) j)
+  pointed_typed line x (Fine t) e h = typing.pointed h e
+  pointed_typed line x (Wrong code word) e h = tt
+
+  element_typed : (x i : TypedExpr) (b : Bool) → is_element x.of_type i.of_type ≡ b → IsExpr x → IsExpr i
+      → WhereFine IsExpr (cond b (Fine (as_typed (tree.ByteAt x.tree i.tree) (type_of.Number I8))) (Wrong TYPES_DIFFER []))
+  element_typed x i true e h g = typing.element h g e
+  element_typed x i false e h g = tt
+
+  step_typed : (line : ℕ) (op : StepOp) (to : TypedTarget) (b : Bool) → is_number to.of_type ≡ b → IsPlace to
+      → WhereFine IsExpr (cond b (Fine (as_typed (tree.StepOf line op to.target) to.of_type)) (Wrong TYPES_DIFFER []))
+  step_typed line op to true e h = typing.step h e
+  step_typed line op to false e h = tt
 
   two_typed : (op : Op) (a b : Expr) (s t : ValueType) → HasType slots a s → HasType slots b t
       → WhereFine IsExpr (typed (λ u. tree.Binary op a b) (of_numbers op s t))
@@ -106,14 +147,37 @@ module _ (slots : List Slot) where
   cast_by x t true e h = typing.cast h e
   cast_by x t false e h = tt
 
-  cast_typed : (to : Option ValueType) (x : TypedExpr) → IsExpr x → WhereFine IsExpr (cast to x)
-  cast_typed None x h = tt
-  cast_typed (Some t) x h = cast_by x t (casts x.of_type t) refl h
+  converted_typed : (to : Option ValueType) (x : TypedExpr) → IsExpr x → WhereFine IsExpr (converted to x)
+  converted_typed None x h = tt
+  converted_typed (Some t) x h = cast_by x t (casts x.of_type t) refl h
+
+  cast_typed : (letter : Option ℕ) (to : Option ValueType) (x : TypedExpr) → IsExpr x
+      → ((slot : ℕ) → letter ≡ Some slot → HasType slots (tree.Letter slot) type_of.Text) → WhereFine IsExpr (cast letter to x)
+  cast_typed None to x h is = converted_typed to x h
+  cast_typed (Some slot) to x h is = either_fine IsExpr (is_text_type to) (Fine _) (converted to x) (is slot refl) (converted_typed to x h)
+
+  char_typed : (o : Option Slot) (slot : ℕ) → ((z : Slot) → o ≡ Some z → slice_get slots z.number ≡ Some z) → char_slot o ≡ Some slot
+      → HasType slots (tree.Letter slot) type_of.Text
+  char_typed None slot h e = absurd cc
+  char_typed (Some z) slot h e = by (is_char z.of_type) refl e
+    where
+      by : (b : Bool) → is_char z.of_type ≡ b → cond b (Some z.number) None ≡ Some slot → HasType slots (tree.Letter slot) type_of.Text
+      by true is g = subst (λ n. HasType slots (tree.Letter n) type_of.Text) (same_Some z.number slot g) (typing.letter (h z refl) is)
+      by false is g = absurd cc
 
   assigned_typed : (line : ℕ) (to : TypedTarget) (x : TypedExpr) (b : Bool) → goes_into x.of_type to.of_type ≡ b → IsPlace to → IsExpr x
       → WhereFine IsExpr (cond b (Fine (as_typed (tree.Assign line to.target x.tree) to.of_type)) (Wrong TYPES_DIFFER []))
   assigned_typed line to x true e h g = typing.assignment h g e
   assigned_typed line to x false e h g = tt
+
+  compounded_typed : (line : ℕ) (op : Op) (to : TypedTarget) (x : TypedExpr) (b : Bool) → are_numbers to.of_type x.of_type ≡ b → IsPlace to → IsExpr x
+      → WhereFine IsExpr (cond b (Fine (as_typed (tree.Compound line to.target op x.tree) to.of_type)) (Wrong TYPES_DIFFER []))
+  compounded_typed line op to x true e h g = typing.compound h g e
+  compounded_typed line op to x false e h g = tt
+
+  set_typed : (line : ℕ) (op : Option Op) (to : TypedTarget) (x : TypedExpr) → IsPlace to → IsExpr x → WhereFine IsExpr (set_to line op to x)
+  set_typed line None to x h g = assigned_typed line to x (goes_into x.of_type to.of_type) refl h g
+  set_typed line (Some op) to x h g = compounded_typed line op to x (are_numbers to.of_type x.of_type) refl h g
 
   item_typed : (x : TypedExpr) (b : Bool) → is_number x.of_type ≡ b → IsExpr x
       → WhereFine IsPlace (cond b (Fine (record { target = tree.ToItem x.tree; of_type = type_of.Scalar })) (Wrong TYPES_DIFFER []))
@@ -161,6 +225,10 @@ module _ (slots : List Slot) where
   -- ---- expressions
 
   module _ (vs : List Local) (held : Held slots vs) where
+    letter_typed : (a : ExprTree) (slot : ℕ) → letter_in vs a ≡ Some slot → HasType slots (tree.Letter slot) type_of.Text
+    letter_typed (syntax.Address line name) slot e = char_typed (variable_of vs name) slot (held name) e
+    letter_typed _ slot e = absurd cc
+
     mutual
       unfolding expr
 
@@ -168,16 +236,28 @@ module _ (slots : List Slot) where
       expr_typed (syntax.Var line name) = judged_good IsExpr line _ (name_typed name (variable_of vs name) (held name))
       expr_typed (syntax.Num line value) = record { good = typing.number }
       expr_typed (syntax.Chr line byte) = record { good = typing.number }
-      expr_typed (syntax.Str line text) = record { good = tt }
+      expr_typed (syntax.Str line text) = record { good = typing.letters }
       expr_typed (syntax.Paren line a) = behind_good IsExpr IsExpr (expr vs a) _ (expr_typed a) (λ x h. record { good = typing.parentheses h })
       expr_typed (syntax.One line op a) = behind_good IsExpr IsExpr (expr vs a) _ (expr_typed a) (λ x h. judged_good IsExpr line _ (prefixed_typed op x h))
       expr_typed (syntax.Call line name args) =
           by_word (bytes_eq name usage_word) _ _ (judged_good IsExpr line _ (usage_typed line args))
           (behind_good AreExprs IsExpr (exprs vs args) _ (exprs_typed args)
           (λ xs h. judged_good IsExpr line _ (called_typed line name (row_named name) xs refl h)))
-      expr_typed (syntax.Set line place None value) =
+      expr_typed (syntax.Index line a at) =
+          both_good IsExpr IsExpr IsExpr (expr vs a) (expr vs at) _ (expr_typed a) (expr_typed at)
+          (λ x i h g. judged_good IsExpr line _ (element_typed x i (is_element x.of_type i.of_type) refl h g))
+      expr_typed (syntax.Deref line a) =
+          behind_good IsExpr IsExpr (expr vs a) _ (expr_typed a) (λ x h. judged_good IsExpr line _ (pointed_typed line x (of_pointed x.of_type) refl h))
+      expr_typed (syntax.Address line name) = judged_good IsExpr line _ (address_typed name (variable_of vs name) (held name))
+      expr_typed (syntax.Before line step place) =
+          behind_good IsPlace IsExpr (place_in vs place) _ (place_typed place)
+          (λ to h. judged_good IsExpr line _ (step_typed line (front_step step) to (is_number to.of_type) refl h))
+      expr_typed (syntax.After line place step) =
+          behind_good IsPlace IsExpr (place_in vs place) _ (place_typed place)
+          (λ to h. judged_good IsExpr line _ (step_typed line (back_step step) to (is_number to.of_type) refl h))
+      expr_typed (syntax.Set line place op value) =
           both_good IsPlace IsExpr IsExpr (place_in vs place) (expr vs value) _ (place_typed place) (expr_typed value)
-          (λ to x h g. judged_good IsExpr line _ (assigned_typed line to x (goes_into x.of_type to.of_type) refl h g))
+          (λ to x h g. judged_good IsExpr line _ (set_typed line op to x h g))
       expr_typed (syntax.Two line op a b) =
           both_good IsExpr IsExpr IsExpr (expr vs a) (expr vs b) _ (expr_typed a) (expr_typed b)
           (λ x y h g. judged_good IsExpr line _ (combined_typed op x y h g))
@@ -185,7 +265,8 @@ module _ (slots : List Slot) where
           three_good IsExpr IsExpr IsExpr IsExpr (expr vs test) (expr vs a) (expr vs b) _ (expr_typed test) (expr_typed a) (expr_typed b)
           (λ t x y h g i. judged_good IsExpr line _ (chosen_typed line t x y (of_choice t.of_type x.of_type y.of_type) refl h g i))
       expr_typed (syntax.Cast line to a) =
-          behind_good IsExpr IsExpr (expr vs a) _ (expr_typed a) (λ x h. judged_good IsExpr line _ (cast_typed (type_named to.name to.stars) x h))
+          behind_good IsExpr IsExpr (expr vs a) _ (expr_typed a)
+          (λ x h. judged_good IsExpr line _ (cast_typed (letter_in vs a) (cast_named to.name to.stars) x h (letter_typed a)))
       -- not built yet
       expr_typed _ = record { good = tt }
 
@@ -196,6 +277,7 @@ module _ (slots : List Slot) where
 
       place_typed : (p : PlaceTree) → WhereGood IsPlace (place_in vs p)
       place_typed (VarPlace line name) = judged_good IsPlace line _ (variable_typed name (variable_of vs name) (held name))
+      place_typed (TargetPlace line name) = judged_good IsPlace line _ (target_typed name (variable_of vs name) (held name))
       place_typed (StPlace line at) =
           behind_good IsExpr IsPlace (expr vs at) _ (expr_typed at) (λ x h. judged_good IsPlace line _ (item_typed x (is_number x.of_type) refl h))
       -- not built yet

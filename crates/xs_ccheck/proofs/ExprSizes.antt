@@ -2,7 +2,7 @@
 use Rattle.std.proofs.Common.{◌≡◌, ℕ, zero, suc, ◌+◌, ◌<◌, List, [], ◌∷◌, length, map, ap, arith, get_or}
 use Rattle.xs_cexpr.specs.declared.tree.Expr.{Expr}
 use Rattle.xs_cexpr.specs.ExpressionViews.{expr_tree}
-use Rattle.xs_cexpr.specs.ExpressionTree.{exprs_of, ExprTree, Call, Paren, One, Set, Two, Choice, Cast, ExprTrees, NoExprs, MoreExprs, PlaceTree, StPlace}
+use Rattle.xs_cexpr.specs.ExpressionTree.{exprs_of, ExprTree, Call, Paren, One, Index, Deref, Before, After, Set, Two, Choice, Cast, ExprTrees, NoExprs, MoreExprs, PlaceTree, StPlace}
 
 abbrev mutual
   pub expr_size : ExprTree → ℕ
@@ -11,6 +11,10 @@ abbrev mutual
   expr_size (Paren line a) = expr_size a + 1
   expr_size (One line op a) = expr_size a + 1
   expr_size (Two line op a b) = expr_size a + expr_size b + 2
+  expr_size (Index line a at) = expr_size a + expr_size at + 2
+  expr_size (Deref line a) = expr_size a + 1
+  expr_size (Before line step place) = place_size place + 2
+  expr_size (After line place step) = place_size place + 2
   expr_size (Choice line test a b) = expr_size test + (expr_size a + expr_size b) + 2
   expr_size (Cast line to a) = expr_size a + 1
   expr_size _ = 1

@@ -11,7 +11,7 @@ use Rattle.xs_values.specs.declared.unary_operator.UnOp.TheVariants as unary
 use Rattle.xs_cinput.specs.declared.tree.BinaryOp.{BinaryOp}
 use Rattle.xs_cinput.specs.declared.tree.BinaryOp.TheVariants as c
 use Rattle.xs_cexpr.specs.ExpressionTree as syntax
-use Rattle.xs_cexpr.specs.ExpressionTree.{ExprTree, ExprTrees, PlaceTree, VarPlace, StPlace}
+use Rattle.xs_cexpr.specs.ExpressionTree.{ExprTree, ExprTrees, PlaceTree, VarPlace, TargetPlace, StPlace}
 use Rattle.xs_cstmt.specs.StatementTree as statement
 use Rattle.xs_cstmt.specs.StatementTree.{DeclaratorTree, FirstTree, StmtTree, StmtTrees, GroupTrees}
 use Rattle.xs_cstmt.specs.declared.tree.Label.{Label}
@@ -19,21 +19,22 @@ use Rattle.xs_csyn.specs.declared.tree.Define.{Define}
 use Rattle.xs_csyn.specs.FileTree.{XsFunTree, ItemTree, XsFunItem, FileTree}
 use Rattle.xs_csyn.specs.Grammar.{line_of, line_of_place}
 use Rattle.xs_perlapi.specs.declared.row.ApiType.{ApiType}
-use Rattle.xs_perlapi.specs.Table.{RowCall, row_named}
+use Rattle.xs_perlapi.specs.declared.row.Written.TheVariants as written
+use Rattle.xs_perlapi.specs.Table.{RowCall, row_named, word_written}
 use Rattle.xs_ctree.specs.declared.value_type.Slot.{Slot}
 use Rattle.xs_ctree.specs.declared.value_type.ValueType.{ValueType}
 use Rattle.xs_ctree.specs.declared.value_type.ValueType.TheVariants as type_of
 use Rattle.xs_ctree.specs.TypedTree.{Expr, Stmt, Return, Give}
 use Rattle.xs_ccheck.specs.declared.enclosing.Where.{Where}
 use Rattle.xs_ctypes.specs.Checked.{Checked, Good, Bad, behind, Judged, Fine, Wrong, judged, unbuilt}
-use Rattle.xs_ccheck.specs.ExprTyping.{TypedExpr, TypedTarget, all_fit, assigned, calculated, called, cast, chosen, combined, compared, expr, exprs, is_cv, is_equal, item_place, name_meant, operated, option_expr, passed, place_in, prefixed, row_called, row_judged, text_in, typed, usage, usage_of, usage_word, variable_place}
+use Rattle.xs_ccheck.specs.ExprTyping.{TypedExpr, TypedTarget, address_meant, all_fit, back_step, calculated, called, cast, chosen, combined, compared, converted, element, expr, exprs, front_step, is_cv, is_equal, is_text_type, item_place, letter_in, name_meant, operated, option_expr, other_address, passed, place_in, pointed, prefixed, row_called, row_judged, set_to, stepped, target_of, target_place, text_in, typed, usage, usage_of, usage_word, variable_place, variable_target}
 use Rattle.xs_ccheck.specs.FileTyping.{behind_entry, code_meant, defines, entry_of, function, functions, item, where_in}
 use Rattle.xs_ctypes.specs.FileNames.{FileNames, index_of, is_earlier, names_of}
-use Rattle.xs_ccheck.specs.FormTypes.{call_type, combined_type, expr_rule, expr_type, expr_types, fit, item_type, name_type, place_rule, set_type, type_by, usage_type, variable_type}
+use Rattle.xs_ccheck.specs.FormTypes.{address_type, call_type, cast_type, combined_type, element_type, expr_rule, expr_type, expr_types, fit, item_type, name_type, place_rule, set_type, step_type, target_type, type_by, usage_type, variable_type, written_type}
 use Rattle.xs_ctypes.specs.Scopes.{Local, Scope, beginning, first_behind, name_behind, scope_behind, scopes_behind, variable_of}
 use Rattle.xs_ccheck.specs.StmtTyping.{TypedGroup, begun, conditional, declarator, declarators, declared, first_part, function_end, groups, in_group, in_turn, is_test, label_number, labels, line_of_label, may_return, stated, stmt, stmts, switched, unset}
-use Rattle.xs_ctypes.specs.TypeNames.{type_named}
-use Rattle.xs_ctypes.specs.ValueTypes.{are_conditions, are_numbers, compares, is_condition, is_equality, is_number, is_operand, of_cast, of_choice, of_numbers, of_one, of_promoted, of_truth, of_two, result_type}
+use Rattle.xs_ctypes.specs.TypeNames.{cast_named, type_named}
+use Rattle.xs_ctypes.specs.ValueTypes.{are_conditions, are_numbers, compares, goes_into, is_address, is_condition, is_equality, is_number, is_operand, of_address, of_cast, of_choice, of_numbers, of_one, of_pointed, of_promoted, of_truth, of_two, result_type}
 use Rattle.xs_ccheck.specs.FaultSet.{Node, AFile, TheDefines, TheItems, ADefine, AnItem, AStmt, TheStmts, ADeclarator, AFirst, TheGroups, AGroup, TheLabels, ALabel, AnOption, AnExpr, APlace, parts, own, refused, refused_unless, no_condition, exprs_at, value_at, stmts_at, declarators_at, labels_at, groups_at, defines_at, items_at}
 use Rattle.xs_ccheck.proofs.LeastFaults.{OwnSays, Says, SaysAll, says_leaf, says_more, says_four, says_node, says_none, says_one, says_three, says_two}
 
@@ -116,8 +117,36 @@ name_types name (Some v) = refl
 name_types name None = type_of_branch (bytes_eq name (codes "items")) _ _
 
 variable_types : (name : List ℕ) (o : Option Slot) → place_type_in (variable_place name o) ≡ variable_type name o
-variable_types name (Some v) = refl
+variable_types name (Some v) = type_of_place (not (is_address v.of_type)) (variable_target v) _ _
 variable_types name None = place_of_branch (bytes_eq name (codes "items")) _ _
+
+written_types : (slot : ℕ) (t : ValueType) → place_type_in (target_of slot t) ≡ written_type t
+written_types slot (type_of.Address kind) = refl
+written_types slot type_of.Text = refl
+written_types slot type_of.Place = refl
+written_types slot _ = refl
+
+target_types : (name : List ℕ) (o : Option Slot) → place_type_in (target_place name o) ≡ target_type name o
+target_types name (Some v) = written_types v.number v.of_type
+target_types name None = place_of_branch (bytes_eq name (codes "items")) _ _
+
+other_types : (name : List ℕ) → type_in (other_address name) ≡ other_address name
+other_types name =
+    type_of_branch (is_some (word_written written.Address name)) _ _
+    ∙ ap (cond (is_some (word_written written.Address name)) unbuilt) (type_of_branch (bytes_eq name (codes "items")) _ _)
+
+address_types : (name : List ℕ) (o : Option Slot) → type_in (address_meant name o) ≡ address_type name o
+address_types name (Some v) = typed_types _ (of_address v.of_type)
+address_types name None = other_types name
+
+cast_types : (letter : Option ℕ) (to : Option ValueType) (x : TypedExpr) → type_in (cast letter to x) ≡ cast_type letter to x.of_type
+cast_types None to x = typed_types _ (of_cast to x.of_type)
+cast_types (Some slot) to x =
+    type_of_branch (is_text_type to) _ (converted to x) ∙ ap (cond (is_text_type to) (Fine type_of.Text)) (typed_types _ (of_cast to x.of_type))
+
+set_types : (line : ℕ) (op : Option Op) (to : TypedTarget) (x : TypedExpr) → type_in (set_to line op to x) ≡ set_type op to.of_type x.of_type
+set_types line None to x = type_of_test (goes_into x.of_type to.of_type) _ _ _
+set_types line (Some op) to x = type_of_test (are_numbers to.of_type x.of_type) _ _ _
 
 fit_types : (wanted : List ApiType) (xs : List TypedExpr) → all_fit wanted xs ≡ fit wanted (map (λ x. x.of_type) xs)
 fit_types [] xs = refl
@@ -176,14 +205,27 @@ module _ (vs : List Local) where
         says_leaf _ _ _ refl (expr_own vs (syntax.Var line name) (name_meant name (variable_of vs name)) (name_types name (variable_of vs name)))
     expr_says (syntax.Num line value) = says_leaf _ _ _ refl (refl, refl)
     expr_says (syntax.Chr line byte) = says_leaf _ _ _ refl (refl, refl)
-    expr_says (syntax.Str line text) = says_leaf _ _ _ refl refl
+    expr_says (syntax.Str line text) = says_leaf _ _ _ refl (refl, refl)
     expr_says (syntax.Paren line a) = says_one _ _ _ _ _ _ refl (expr_says a) (λ x t. expr_own vs (syntax.Paren line a) (Fine (passed x)) (ap Fine t))
     expr_says (syntax.One line op a) =
         says_one _ _ _ _ _ _ refl (expr_says a) (λ x t. expr_own vs (syntax.One line op a) (prefixed op x) (prefixed_types op x ∙ ap (of_one op) t))
     expr_says (syntax.Call line name args) = call_says (syntax.Call line name args) name args (bytes_eq name usage_word) refl refl (exprs_say args)
-    expr_says (syntax.Set line place None value) =
+    expr_says (syntax.Index line a at) =
+        says_two _ _ _ _ _ _ _ _ _ refl (expr_says a) (expr_says at)
+        (λ x i t u. expr_own vs (syntax.Index line a at) (element x i) (type_of_test _ _ _ _ ∙ ap₂ element_type t u))
+    expr_says (syntax.Deref line a) =
+        says_one _ _ _ _ _ _ refl (expr_says a) (λ x t. expr_own vs (syntax.Deref line a) (pointed line x) (typed_types _ _ ∙ ap of_pointed t))
+    expr_says (syntax.Address line name) =
+        says_leaf _ _ _ refl (expr_own vs (syntax.Address line name) (address_meant name (variable_of vs name)) (address_types name (variable_of vs name)))
+    expr_says (syntax.Before line step place) =
+        says_one _ _ _ _ _ _ refl (place_says place)
+        (λ to t. expr_own vs (syntax.Before line step place) (stepped line (front_step step) to) (type_of_test _ _ _ _ ∙ ap step_type t))
+    expr_says (syntax.After line place step) =
+        says_one _ _ _ _ _ _ refl (place_says place)
+        (λ to t. expr_own vs (syntax.After line place step) (stepped line (back_step step) to) (type_of_test _ _ _ _ ∙ ap step_type t))
+    expr_says (syntax.Set line place op value) =
         says_two _ _ _ _ _ _ _ _ _ refl (place_says place) (expr_says value)
-        (λ to x t u. expr_own vs (syntax.Set line place None value) (assigned line to x) (type_of_test _ _ _ _ ∙ ap₂ set_type t u))
+        (λ to x t u. expr_own vs (syntax.Set line place op value) (set_to line op to x) (set_types line op to x ∙ ap₂ (set_type op) t u))
     expr_says (syntax.Two line op a b) =
         says_two _ _ _ _ _ _ _ _ _ refl (expr_says a) (expr_says b)
         (λ x y t u. expr_own vs (syntax.Two line op a b) (combined op x y) (combined_types op x y ∙ ap₂ (combined_type op) t u))
@@ -193,7 +235,8 @@ module _ (vs : List Local) where
         (typed_types _ _ ∙ ap (λ z. of_choice z x.of_type y.of_type) d ∙ ap₂ (of_choice (expr_type vs test)) e f))
     expr_says (syntax.Cast line to a) =
         says_one _ _ _ _ _ _ refl (expr_says a)
-        (λ x t. expr_own vs (syntax.Cast line to a) (cast (type_named to.name to.stars) x) (typed_types _ _ ∙ ap (of_cast (type_named to.name to.stars)) t))
+        (λ x t. expr_own vs (syntax.Cast line to a) (cast (letter_in vs a) (cast_named to.name to.stars) x)
+        (cast_types (letter_in vs a) (cast_named to.name to.stars) x ∙ ap (cast_type (letter_in vs a) (cast_named to.name to.stars)) t))
     -- not built yet
     expr_says _ = says_leaf _ _ _ refl refl
 
@@ -207,6 +250,8 @@ module _ (vs : List Local) where
         says_leaf _ _ _ refl (place_own vs (VarPlace line name) (variable_place name (variable_of vs name)) (variable_types name (variable_of vs name)))
     place_says (StPlace line at) =
         says_one _ _ _ _ _ _ refl (expr_says at) (λ x t. place_own vs (StPlace line at) (item_place x) (type_of_place _ _ _ _ ∙ ap item_type t))
+    place_says (TargetPlace line name) =
+        says_leaf _ _ _ refl (place_own vs (TargetPlace line name) (target_place name (variable_of vs name)) (target_types name (variable_of vs name)))
     -- not built yet
     place_says _ = says_leaf _ _ _ refl refl
 

@@ -13,8 +13,9 @@ use Rattle.xs_perlapi.specs.Table.{RowCall}
 use Rattle.xs_ctree.specs.declared.value_type.ValueType.{ValueType}
 use Rattle.xs_ctypes.specs.ValueTypes.{result_type}
 use Rattle.xs_cinput.specs.declared.tree.BinaryOp.{BinaryOp}
+use Rattle.xs_values.specs.declared.operator.Op.{Op}
 use Rattle.xs_cexpr.specs.declared.tree.Expr.{Expr}
-use Rattle.xs_cexpr.specs.ExpressionTree.{ExprTree, PlaceTree, Set, Two, exprs_of}
+use Rattle.xs_cexpr.specs.ExpressionTree.{ExprTree, PlaceTree, Index, Set, Two, exprs_of}
 use Rattle.xs_cexpr.specs.ExpressionViews.{expr_tree}
 use Rattle.xs_cstmt.specs.declared.tree.Declarator.{Declarator}
 use Rattle.xs_cstmt.specs.declared.tree.Group.{Group}
@@ -37,7 +38,7 @@ use Rattle.xs_ccheck.specs.declared.exprs.PlaceNode.{PlaceNode}
 use Rattle.xs_ccheck.specs.declared.exprs.TypedNode.{TypedNode}
 use Rattle.xs_ccheck.specs.declared.enclosing.Where.{Where}
 use Rattle.xs_ctypes.specs.Checked.{Checked, Good, Bad, both, Fine, Wrong, judged, more}
-use Rattle.xs_ccheck.specs.ExprTyping.{TypedExpr, all_fit, as_typed, assigned, combined, expr, exprs, place_in, row_called, row_judged}
+use Rattle.xs_ccheck.specs.ExprTyping.{TypedExpr, all_fit, as_typed, combined, element, expr, exprs, place_in, row_called, row_judged, set_to}
 use Rattle.xs_ccheck.specs.FileTyping.{defines, functions, item}
 use Rattle.xs_ctypes.specs.Joining.{Notes, TakesUp, joined, settled}
 use Rattle.xs_ccheck.specs.Resolving.{GivesExpr, GivesFunction, GivesFunctions, GivesTarget, HasTarget, HasTyped, all_typed_in, nodes_of, Resolved, UnlessMemory, target_in, typed_in}
@@ -62,17 +63,17 @@ module _ (old new : Typed) (k : Keeps old new) where
   typed_kept x h = ap (λ e. record { tree = e; of_type = x.of_type }) (k.expr x.node h)
 
 module _ (vs : List Local) (line : ℕ) (old one two new : Typed) (res : Result TypedNode Refuse) (x : TypedNode) (v : Result TypedNode Refuse) where
-  pub assignment : (place : PlaceTree) (value : ExprTree) (p : PlaceNode) (to : Result PlaceNode Refuse)
+  pub assignment : (op : Option Op) (place : PlaceTree) (value : ExprTree) (p : PlaceNode) (to : Result PlaceNode Refuse)
       → GivesTarget to old one (place_in vs place) → GivesExpr v one two (expr vs value) → joined to v ≡ Ok (p, x)
-      → GivesExpr res two new (judged line (assigned line (target_in two p) (typed_in two x))) → GivesExpr res old new (expr vs (Set line place None value))
+      → GivesExpr res two new (judged line (set_to line op (target_in two p) (typed_in two x))) → GivesExpr res old new (expr vs (Set line place op value))
   unfolding expr
-  assignment place value p to h g e r =
+  assignment op place value p to h g e r =
       let first : Resolved target_in HasTarget p old one (place_in vs place) =
       subst (λ z. GivesTarget z old one (place_in vs place)) (joined_first to v p x e) h in
       let second : Resolved typed_in HasTyped x one two (expr vs value) = subst (λ z. GivesExpr z one two (expr vs value)) (joined_second to v p x e) g in
-      let read : expr vs (Set line place None value) ≡ judged line (assigned line (target_in two p) (typed_in two x)) =
-      ap₂ (λ a b. both a b (λ q y. judged line (assigned line q y))) first.means second.means
-      ∙ ap (λ q. judged line (assigned line q (typed_in two x))) (sym (place_kept one two second.keeps p first.there_is)) in
+      let read : expr vs (Set line place op value) ≡ judged line (set_to line op (target_in two p) (typed_in two x)) =
+      ap₂ (λ a b. both a b (λ q y. judged line (set_to line op q y))) first.means second.means
+      ∙ ap (λ q. judged line (set_to line op q (typed_in two x))) (sym (place_kept one two second.keeps p first.there_is)) in
       resolves_on typed_in HasTyped res old two new _ (keeps_on old one two first.keeps second.keeps) (subst (λ z. GivesExpr res two new z) (sym read) r)
 
   pub operation : (op : BinaryOp) (a b : ExprTree) (y : TypedNode) (w : Result TypedNode Refuse)
@@ -85,6 +86,18 @@ module _ (vs : List Local) (line : ℕ) (old one two new : Typed) (res : Result 
       let read : expr vs (Two line op a b) ≡ judged line (combined op (typed_in two y) (typed_in two x)) =
       ap₂ (λ c d. both c d (λ q z. judged line (combined op q z))) first.means second.means
       ∙ ap (λ q. judged line (combined op q (typed_in two x))) (sym (typed_kept one two second.keeps y first.there_is)) in
+      resolves_on typed_in HasTyped res old two new _ (keeps_on old one two first.keeps second.keeps) (subst (λ z. GivesExpr res two new z) (sym read) r)
+
+  pub indexing : (a b : ExprTree) (y : TypedNode) (w : Result TypedNode Refuse)
+      → GivesExpr w old one (expr vs a) → GivesExpr v one two (expr vs b) → joined w v ≡ Ok (y, x)
+      → GivesExpr res two new (judged line (element (typed_in two y) (typed_in two x))) → GivesExpr res old new (expr vs (Index line a b))
+  unfolding expr
+  indexing a b y w h g e r =
+      let first : Resolved typed_in HasTyped y old one (expr vs a) = subst (λ z. GivesExpr z old one (expr vs a)) (joined_first w v y x e) h in
+      let second : Resolved typed_in HasTyped x one two (expr vs b) = subst (λ z. GivesExpr z one two (expr vs b)) (joined_second w v y x e) g in
+      let read : expr vs (Index line a b) ≡ judged line (element (typed_in two y) (typed_in two x)) =
+      ap₂ (λ c d. both c d (λ q z. judged line (element q z))) first.means second.means
+      ∙ ap (λ q. judged line (element q (typed_in two x))) (sym (typed_kept one two second.keeps y first.there_is)) in
       resolves_on typed_in HasTyped res old two new _ (keeps_on old one two first.keeps second.keeps) (subst (λ z. GivesExpr res two new z) (sym read) r)
 
 -- ---- rows

@@ -1,18 +1,19 @@
 -- The slots of the code of a function are those that its text means.
 use Rattle.std.proofs.Common.{◌≡◌, ℕ, ◌+◌, Bool, true, false, cond, List, [], ◌∷◌, ◌++◌, map, length, codes, Option, None, Some, Ok, slice_get, refl, sym, ap, ap₂, ◌∙◌, subst, append_assoc, append-nil}
 use Rattle.std.specs.Option.{option_map, is_some}
-use Rattle.std.specs.Prelude.{◌&&◌, ◌||◌, nat_eq}
+use Rattle.std.specs.Prelude.{◌&&◌, ◌||◌, nat_eq, not}
 use Rattle.std.specs.Str.{bytes_eq}
 use Rattle.std.proofs.lemmas.Bool.{or_parts}
 use Rattle.std.proofs.lemmas.List.{length-append, map-append}
 use Rattle.std.proofs.lemmas.Slice.Eq.{bytes_eq-Decides}
 use Rattle.xs_base.specs.declared.fault_codes.TheConstants.{DECLARED_TWICE, TYPES_DIFFER, WORD_NOT_ALLOWED}
+use Rattle.xs_values.specs.declared.operator.Op.{Op}
 use Rattle.xs_values.specs.declared.unary_operator.UnOp.{UnOp}
 use Rattle.xs_values.specs.declared.unary_operator.UnOp.TheVariants as unary
 use Rattle.xs_cinput.specs.declared.tree.BinaryOp.{BinaryOp}
 use Rattle.xs_cinput.specs.declared.tree.BinaryOp.TheVariants as c
 use Rattle.xs_cexpr.specs.ExpressionTree as syntax
-use Rattle.xs_cexpr.specs.ExpressionTree.{ExprTree, ExprTrees, PlaceTree, VarPlace, StPlace}
+use Rattle.xs_cexpr.specs.ExpressionTree.{ExprTree, ExprTrees, PlaceTree, VarPlace, TargetPlace, StPlace}
 use Rattle.xs_cstmt.specs.StatementTree as statement
 use Rattle.xs_cstmt.specs.StatementTree.{DeclaratorTree, FirstTree, StmtTree, StmtTrees, GroupTrees}
 use Rattle.xs_cstmt.specs.declared.tree.Label.{Label}
@@ -21,7 +22,8 @@ use Rattle.xs_cstmt.specs.declared.tree.PerlForm.TheVariants as form
 use Rattle.xs_cstmt.specs.declared.tree.PerlWord.{PerlWord}
 use Rattle.xs_cstmt.specs.declared.tree.PerlWord.TheVariants as word
 use Rattle.xs_csyn.specs.FileTree.{XsFunTree, FileTree}
-use Rattle.xs_perlapi.specs.Table.{RowCall, is_interface_word, row_named}
+use Rattle.xs_perlapi.specs.declared.row.Written.TheVariants as written
+use Rattle.xs_perlapi.specs.Table.{RowCall, is_interface_word, row_named, word_written}
 use Rattle.xs_ctree.specs.declared.value_type.Slot.{Slot}
 use Rattle.xs_ctree.specs.declared.value_type.ValueType.{ValueType}
 use Rattle.xs_ctree.specs.declared.value_type.ValueType.TheVariants as type_of
@@ -30,16 +32,16 @@ use Rattle.xs_ctree.specs.TypedTree.{Code, Expr, Exprs, NoExprs, MoreExprs, Lite
 use Rattle.xs_ctree.specs.TypedTree as typed_tree
 use Rattle.xs_ccheck.specs.declared.enclosing.Where.{Where}
 use Rattle.xs_ctypes.specs.Checked.{Checked, Good, Bad, behind, both, Judged, Fine, Wrong, judged}
-use Rattle.xs_ccheck.specs.ExprTyping.{TypedExpr, TypedTarget, all_fit, calculated, called, combined, compared, expr, exprs, name_meant, option_expr, place_in, prefixed, typed, usage, usage_of, usage_word, is_cv, text_in, variable_place}
+use Rattle.xs_ccheck.specs.ExprTyping.{TypedExpr, TypedTarget, address_meant, all_fit, back_step, calculated, called, cast, char_slot, combined, compared, converted, expr, exprs, front_step, is_text_type, letter_in, name_meant, option_expr, other_address, place_in, prefixed, set_to, target_of, target_place, typed, usage, usage_of, usage_word, is_cv, text_in, variable_place}
 use Rattle.xs_ccheck.specs.FileTyping.{behind_entry, entry_form, entry_of, function_done, typed_of, where_in, with_entry}
 use Rattle.xs_ctypes.specs.FileNames.{FileNames, index_of, is_boot_name}
 use Rattle.xs_ctypes.specs.Scopes.{Local, Scope, beginning, declared_in, declarators_behind, first_behind, groups_behind, is_in_use, name_behind, new_variable, next_slot, outside, scope_behind, scopes_behind, variable_of, with_variable}
 use Rattle.xs_ccheck.specs.StmtTyping.{TypedGroup, begun, conditional, declaration, declarator, declarators, declared, first_part, for_loop, function_end, groups, groups_of, in_group, in_order, in_turn, is_given, is_test, labels, may_return, perl, perl_word, quits, registered, returned, stated, stmt, stmts, switched, test_of, unset}
-use Rattle.xs_ctypes.specs.TypeNames.{declared_type, type_named}
-use Rattle.xs_ctypes.specs.ValueTypes.{are_conditions, are_numbers, compares, is_condition, is_equality, is_number, goes_into, of_cast, of_choice, of_numbers, of_promoted}
+use Rattle.xs_ctypes.specs.TypeNames.{cast_named, declared_type, type_named}
+use Rattle.xs_ctypes.specs.ValueTypes.{are_conditions, are_numbers, compares, is_address, is_char, is_condition, is_element, is_equality, is_number, goes_into, of_address, of_cast, of_choice, of_numbers, of_pointed, of_promoted}
 use Rattle.xs_ccheck.proofs.GoodFunctions.{OfItem, each_function, function_of, statements_of}
 use Rattle.xs_ctypes.proofs.ScopesGrow.{Grown, Numbered, block_end, first_grown, found_last, grown_trans, is_none_of, scope_grown, scopes_grown}
-use Rattle.xs_ccheck.proofs.WhereGood.{WhereFine, WhereGood, behind_good, both_good, either_fine, fine_by, judged_good, three_good, two_wrongs}
+use Rattle.xs_ccheck.proofs.WhereGood.{WhereFine, WhereGood, behind_good, both_good, either_fine, fine_by, fine_unless, judged_good, three_good, two_wrongs}
 use Rattle.xs_ccheck.specs.SlotUses.{SlotUse, Declares, Uses, slots_declared, in_expr, in_exprs, in_target, in_test, in_each, in_stmt, in_stmts, in_groups, Named, Known, nothing_known, last_declared, knowing_also, known_behind, known_behind_all, known_behind_names, known_behind_groups, known_first, known_outside, use_of, meant_in_expr, meant_in_exprs, meant_in_place, meant_in_value, meant_in_name, meant_in_names, meant_in_first, meant_in_stmt, meant_in_stmts, meant_in_groups, HasItsSlots}
 
 -- ---- expressions
@@ -76,7 +78,17 @@ name_does name (Some v) m e = ap use_of e
 variable_does : (name : List ℕ) (o : Option Slot) (m : Option ℕ) → option_map (λ s. s.number) o ≡ m
     → WhereFine (Doing in_place (use_of m)) (variable_place name o)
 variable_does name None m e = two_wrongs (Doing in_place (use_of m)) (bytes_eq name (codes "items")) _ _ _ _
-variable_does name (Some v) m e = ap use_of e
+variable_does name (Some v) m e = fine_by (Doing in_place (use_of m)) (not (is_address v.of_type)) (Fine _) _ _ (ap use_of e)
+
+target_of_does : (slot : ℕ) (t : ValueType) (uses : List SlotUse) → Uses slot ∷ [] ≡ uses → WhereFine (Doing in_place uses) (target_of slot t)
+target_of_does slot (type_of.Address kind) uses e = e
+target_of_does slot type_of.Text uses e = tt
+target_of_does slot type_of.Place uses e = tt
+target_of_does slot _ uses e = tt
+
+target_does : (name : List ℕ) (o : Option Slot) (m : Option ℕ) → option_map (λ s. s.number) o ≡ m → WhereFine (Doing in_place (use_of m)) (target_place name o)
+target_does name None m e = two_wrongs (Doing in_place (use_of m)) (bytes_eq name (codes "items")) _ _ _ _
+target_does name (Some v) m e = target_of_does v.number v.of_type (use_of m) (ap use_of e)
 
 typed_does : (f : ValueType → Expr) (j : Judged ValueType) (uses : List SlotUse) → ((t : ValueType) → in_expr (f t) ≡ uses)
     → WhereFine (Doing in_typed uses) (typed f j)
@@ -97,6 +109,35 @@ combined_does (c.On op) x y uses e =
     (fine_by (Doing in_typed uses) (compares x.of_type y.of_type && is_equality op) (Fine _) _ _ e)
 combined_does c.Or x y uses e = fine_by (Doing in_typed uses) (are_conditions x.of_type y.of_type) (Fine _) _ _ e
 combined_does c.And x y uses e = fine_by (Doing in_typed uses) (are_conditions x.of_type y.of_type) (Fine _) _ _ e
+
+other_does_nothing : (name : List ℕ) (uses : List SlotUse) → WhereFine (Doing in_typed uses) (other_address name)
+other_does_nothing name uses =
+    fine_unless (Doing in_typed uses) (is_some (word_written written.Address name)) _ _ _
+    (two_wrongs (Doing in_typed uses) (bytes_eq name (codes "items")) _ _ _ _)
+
+address_does : (name : List ℕ) (o : Option Slot) (m : Option ℕ) → option_map (λ s. s.number) o ≡ m
+    → WhereFine (Doing in_typed (use_of m)) (address_meant name o)
+address_does name None m e = other_does_nothing name (use_of m)
+address_does name (Some v) m e = typed_does _ (of_address v.of_type) (use_of m) (λ t. ap use_of e)
+
+set_does : (line : ℕ) (op : Option Op) (to : TypedTarget) (x : TypedExpr) (uses : List SlotUse) → in_place to ++ in_typed x ≡ uses
+    → WhereFine (Doing in_typed uses) (set_to line op to x)
+set_does line None to x uses e = fine_by (Doing in_typed uses) (goes_into x.of_type to.of_type) (Fine _) _ _ e
+set_does line (Some op) to x uses e = fine_by (Doing in_typed uses) (are_numbers to.of_type x.of_type) (Fine _) _ _ e
+
+cast_does : (letter : Option ℕ) (to : Option ValueType) (x : TypedExpr) (uses : List SlotUse) → in_typed x ≡ uses
+    → ((slot : ℕ) → letter ≡ Some slot → Uses slot ∷ [] ≡ uses) → WhereFine (Doing in_typed uses) (cast letter to x)
+cast_does None to x uses e h = typed_does _ (of_cast to x.of_type) uses (λ t. e)
+cast_does (Some slot) to x uses e h =
+    either_fine (Doing in_typed uses) (is_text_type to) (Fine _) (converted to x) (h slot refl) (typed_does _ (of_cast to x.of_type) uses (λ t. e))
+
+char_does : (o : Option Slot) (m : Option ℕ) (slot : ℕ) → option_map (λ s. s.number) o ≡ m → char_slot o ≡ Some slot → Uses slot ∷ [] ≡ use_of m
+char_does None m slot e h = absurd cc
+char_does (Some v) m slot e h = by (is_char v.of_type) h
+  where
+    by : (b : Bool) → cond b (Some v.number) None ≡ Some slot → Uses slot ∷ [] ≡ use_of m
+    by true g = ap use_of (sym g ∙ e)
+    by false g = absurd cc
 
 called_does : (line : ℕ) (name : List ℕ) (o : Option RowCall) (xs : List TypedExpr) (uses : List SlotUse) → in_all xs ≡ uses
     → WhereFine (Doing in_typed uses) (called line name o xs)
@@ -121,6 +162,10 @@ by_word view u v true r s h g = h
 by_word view u v false r s h g = g
 
 module _ (vs : List Local) (ns : List Named) (agree : Agree vs ns) where
+  letter_does : (a : ExprTree) (slot : ℕ) → letter_in vs a ≡ Some slot → Uses slot ∷ [] ≡ meant_in_expr ns a
+  letter_does (syntax.Address line name) slot e = char_does (variable_of vs name) (last_declared ns name) slot (agree name) e
+  letter_does _ slot e = absurd cc
+
   mutual
     unfolding expr
 
@@ -128,7 +173,7 @@ module _ (vs : List Local) (ns : List Named) (agree : Agree vs ns) where
     expr_does (syntax.Var line name) = judged_good (Doing in_typed _) line _ (name_does name (variable_of vs name) (last_declared ns name) (agree name))
     expr_does (syntax.Num line value) = record { good = refl }
     expr_does (syntax.Chr line byte) = record { good = refl }
-    expr_does (syntax.Str line text) = record { good = tt }
+    expr_does (syntax.Str line text) = record { good = refl }
     expr_does (syntax.Paren line a) =
         behind_good (Doing in_typed (meant_in_expr ns a)) (Doing in_typed _) (expr vs a) _ (expr_does a) (λ x e. record { good = e })
     expr_does (syntax.One line op a) =
@@ -138,11 +183,27 @@ module _ (vs : List Local) (ns : List Named) (agree : Agree vs ns) where
         by_word in_typed [] (meant_in_exprs ns args) (bytes_eq name usage_word) _ _ (judged_good (Doing in_typed []) line _ (usage_does line args))
         (behind_good (Doing in_all (meant_in_exprs ns args)) (Doing in_typed (meant_in_exprs ns args)) (exprs vs args) _ (exprs_do args)
         (λ xs e. judged_good (Doing in_typed _) line _ (called_does line name (row_named name) xs _ e)))
-    expr_does (syntax.Set line place None value) =
+    expr_does (syntax.Index line a at) =
+        both_good (Doing in_typed (meant_in_expr ns a)) (Doing in_typed (meant_in_expr ns at)) (Doing in_typed _) (expr vs a) (expr vs at) _
+        (expr_does a) (expr_does at)
+        (λ x i d e. judged_good (Doing in_typed _) line _
+        (fine_by (Doing in_typed _) (is_element x.of_type i.of_type) (Fine _) _ _ (ap₂ (λ u v. u ++ v) d e)))
+    expr_does (syntax.Deref line a) =
+        behind_good (Doing in_typed (meant_in_expr ns a)) (Doing in_typed _) (expr vs a) _ (expr_does a)
+        (λ x e. judged_good (Doing in_typed _) line _ (typed_does _ (of_pointed x.of_type) _ (λ t. e)))
+    expr_does (syntax.Address line name) =
+        judged_good (Doing in_typed _) line _ (address_does name (variable_of vs name) (last_declared ns name) (agree name))
+    expr_does (syntax.Before line step place) =
+        behind_good (Doing in_place (meant_in_place ns place)) (Doing in_typed _) (place_in vs place) _ (place_does place)
+        (λ to e. judged_good (Doing in_typed _) line _ (fine_by (Doing in_typed _) (is_number to.of_type) (Fine _) _ _ e))
+    expr_does (syntax.After line place step) =
+        behind_good (Doing in_place (meant_in_place ns place)) (Doing in_typed _) (place_in vs place) _ (place_does place)
+        (λ to e. judged_good (Doing in_typed _) line _ (fine_by (Doing in_typed _) (is_number to.of_type) (Fine _) _ _ e))
+    expr_does (syntax.Set line place op value) =
         both_good (Doing in_place (meant_in_place ns place)) (Doing in_typed (meant_in_expr ns value)) (Doing in_typed _) (place_in vs place) (expr vs value) _
         (place_does place)
         (expr_does value)
-        (λ to x d e. judged_good (Doing in_typed _) line _ (fine_by (Doing in_typed _) (goes_into x.of_type to.of_type) (Fine _) _ _ (ap₂ (λ u v. u ++ v) d e)))
+        (λ to x d e. judged_good (Doing in_typed _) line _ (set_does line op to x _ (ap₂ (λ u v. u ++ v) d e)))
     expr_does (syntax.Two line op a b) =
         both_good (Doing in_typed (meant_in_expr ns a)) (Doing in_typed (meant_in_expr ns b)) (Doing in_typed _) (expr vs a) (expr vs b) _
         (expr_does a) (expr_does b)
@@ -154,7 +215,7 @@ module _ (vs : List Local) (ns : List Named) (agree : Agree vs ns) where
         (typed_does _ (of_choice t.of_type x.of_type y.of_type) _ (λ ty. ap₂ (λ u v. u ++ v) d (ap₂ (λ u v. u ++ v) e f))))
     expr_does (syntax.Cast line to a) =
         behind_good (Doing in_typed (meant_in_expr ns a)) (Doing in_typed _) (expr vs a) _ (expr_does a)
-        (λ x e. judged_good (Doing in_typed _) line _ (typed_does _ (of_cast (type_named to.name to.stars) x.of_type) _ (λ t. e)))
+        (λ x e. judged_good (Doing in_typed _) line _ (cast_does (letter_in vs a) (cast_named to.name to.stars) x _ e (letter_does a)))
     -- not built yet
     expr_does _ = record { good = tt }
 
@@ -167,6 +228,7 @@ module _ (vs : List Local) (ns : List Named) (agree : Agree vs ns) where
 
     place_does : (p : PlaceTree) → Does in_place (meant_in_place ns p) (place_in vs p)
     place_does (VarPlace line name) = judged_good (Doing in_place _) line _ (variable_does name (variable_of vs name) (last_declared ns name) (agree name))
+    place_does (TargetPlace line name) = judged_good (Doing in_place _) line _ (target_does name (variable_of vs name) (last_declared ns name) (agree name))
     place_does (StPlace line at) =
         behind_good (Doing in_typed (meant_in_expr ns at)) (Doing in_place _) (expr vs at) _ (expr_does at)
         (λ x e. judged_good (Doing in_place _) line _ (fine_by (Doing in_place _) (is_number x.of_type) (Fine _) _ _ e))

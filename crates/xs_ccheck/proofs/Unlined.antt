@@ -8,7 +8,7 @@ use Rattle.std.proofs.lemmas.Option.{same_Some}
 use Rattle.xs_base.specs.declared.fault.Fault.{Fault}
 use Rattle.xs_base.specs.declared.fault_codes.TheConstants.{DECLARED_TWICE, TYPES_DIFFER, WRONG_NUMBER_OF_ARGUMENTS, UNKNOWN_NAME}
 use Rattle.xs_cexpr.specs.ExpressionTree as syntax_expr
-use Rattle.xs_cexpr.specs.ExpressionTree.{ExprTree, ExprTrees, PlaceTree, VarPlace, StPlace, unlined_expr, unlined_exprs, unlined_place}
+use Rattle.xs_cexpr.specs.ExpressionTree.{ExprTree, ExprTrees, PlaceTree, VarPlace, TargetPlace, StPlace, unlined_expr, unlined_exprs, unlined_place}
 use Rattle.xs_cstmt.specs.StatementTree as syntax_stmt
 use Rattle.xs_cstmt.specs.StatementTree.{DeclaratorTree, FirstTree, StmtTree, StmtTrees, GroupTrees, unlined_declarator, unlined_first, unlined_groups, unlined_label, unlined_stmt, unlined_stmts}
 use Rattle.xs_cstmt.specs.declared.tree.Label.{Label}
@@ -30,15 +30,15 @@ use Rattle.xs_perlapi.specs.declared.row.Row.TheVariants.{Entry}
 use Rattle.xs_ctree.specs.TypedTree.{Expr, NoExprs, MoreExprs, Passed, Cast, Assign, Api, ToItem, When, Stmt, NoStmts, MoreStmts, MoreGroups, Block, Effect, Declare, If, Loop, Switch, Break, Continue, Return, Give, Quit, nothing, Code, exprs_of, stmts_of, bare, bare_expr, bare_exprs, bare_function, bare_groups, bare_slot, bare_stmt, bare_stmts, bare_target, bare_test}
 use Rattle.xs_ccheck.specs.declared.enclosing.Where.{Where}
 use Rattle.xs_ctypes.specs.Checked.{Bad, Checked, Fine, Good, Judged, Wrong, answer, behind, four, judged, unbuilt, unknown}
-use Rattle.xs_ccheck.specs.ExprTyping.{TypedExpr, TypedTarget, all_fit, as_typed, assigned, called, expr, exprs, is_cv, item_place, name_meant, option_expr, place_in, row_judged, text_in, usage, usage_of, usage_word, variable_place}
+use Rattle.xs_ccheck.specs.ExprTyping.{TypedExpr, TypedTarget, address_meant, all_fit, as_typed, back_step, called, char_slot, expr, exprs, front_step, is_cv, item_place, letter_in, name_meant, option_expr, place_in, row_judged, target_place, text_in, usage, usage_of, usage_word, variable_place}
 use Rattle.xs_ccheck.specs.FileTyping.{behind_entry, code_meant, defines, entry_form, entry_line, entry_of, entry_word, function, function_done, function_from, function_judged, functions, item, sort_of, typed_of, where_in, with_entry}
 use Rattle.xs_ctypes.specs.FileNames.{FileNames, index_of, is_boot_name, is_earlier, item_name, names_of}
 use Rattle.xs_ctypes.specs.Scopes.{Local, Scope, beginning, declared_in, declarators_behind, first_behind, groups_behind, is_in_use, knowing, name_behind, new_variable, next_slot, scope_behind, scopes_behind, variable_of, with_variable}
 use Rattle.xs_ccheck.specs.StmtTyping.{TypedGroup, begun, conditional, declaration, declarator, declarators, declared, effect, first_part, for_loop, function_end, groups, groups_of, in_group, in_order, in_turn, is_given, is_test, label_number, labelled, labels, line_of_label, may_return, perl, perl_word, quits, stated, stmt, stmts, switched, test_of, typed_group, unset, unused}
-use Rattle.xs_ctypes.specs.TypeNames.{declared_type, type_named}
+use Rattle.xs_ctypes.specs.TypeNames.{cast_named, declared_type, type_named}
 use Rattle.xs_ctypes.specs.ValueTypes.{goes_into, is_condition, is_number, is_operand, result_type}
 use Rattle.xs_ccheck.proofs.Alike.{Alike, AlikeIn, seen, seen_in, fine, wrongs, by_test, judged_alike, after, after_both, after_three, more_alike, bare_typed, bare_place, same_type, same_tree, when_alike}
-use Rattle.xs_ccheck.proofs.OperatorsAlike.{cast_alike, chosen_alike, combined_alike, prefixed_alike}
+use Rattle.xs_ccheck.proofs.OperatorsAlike.{cast_alike, chosen_alike, combined_alike, element_alike, pointed_alike, prefixed_alike, set_alike, stepped_alike}
 
 -- ---- variables
 
@@ -76,18 +76,27 @@ meant_alike name (Some v) = record { is = refl }
 
 variable_alike : (name : List ℕ) (o : Option Slot) → AlikeIn bare_place (variable_place name o) (variable_place name (option_map bare_slot o))
 variable_alike name None = record { is = refl }
-variable_alike name (Some v) = record { is = refl }
+variable_alike name (Some v) = when_alike bare_place _ _ _ _ _ _ refl refl
+
+target_alike : (name : List ℕ) (o : Option Slot) → AlikeIn bare_place (target_place name o) (target_place name (option_map bare_slot o))
+target_alike name None = record { is = refl }
+target_alike name (Some v) = record { is = refl }
+
+address_alike : (name : List ℕ) (o : Option Slot) → AlikeIn bare_typed (address_meant name o) (address_meant name (option_map bare_slot o))
+address_alike name None = record { is = refl }
+address_alike name (Some v) = record { is = refl }
+
+char_bare : (o : Option Slot) → char_slot o ≡ char_slot (option_map bare_slot o)
+char_bare None = refl
+char_bare (Some v) = refl
+
+letter_bare : (vs : List Local) (a : ExprTree) → letter_in vs a ≡ letter_in (bare_locals vs) (unlined_expr a)
+letter_bare vs (syntax_expr.Address line name) = char_bare (variable_of vs name) ∙ ap char_slot (sym (found_bare vs name))
+letter_bare vs _ = refl
 
 item_alike : (x y : TypedExpr) → bare_typed x ≡ bare_typed y → AlikeIn bare_place (item_place x) (item_place y)
 item_alike x y e =
     when_alike bare_place _ _ _ _ _ _ (ap is_number (same_type x y e)) (ap (λ t. record { target = ToItem t; of_type = type_of.Scalar }) (same_tree x y e))
-
-assigned_alike : (line : ℕ) (p q : TypedTarget) (x y : TypedExpr) → bare_place p ≡ bare_place q → bare_typed x ≡ bare_typed y
-    → AlikeIn bare_typed (assigned line p x) (assigned 0 q y)
-assigned_alike line p q x y e g =
-    let t : p.of_type ≡ q.of_type = ap (λ (z : TypedTarget). z.of_type) e in
-    let to : bare_target p.target ≡ bare_target q.target = ap (λ (z : TypedTarget). z.target) e in
-    when_alike bare_typed _ _ _ _ _ _ (ap₂ goes_into (same_type x y g) t) (ap₂ as_typed (ap₂ (Assign 0) to (same_tree x y g)) t)
 
 -- ---- calls
 
@@ -169,9 +178,24 @@ module _ (vs : List Local) where
         by_word bare_typed (bytes_eq name usage_word) _ _ _ _ (judged_alike bare_typed line 0 _ _ (usage_alike line args))
         (after (map bare_typed) bare_typed _ _ _ _ (exprs_alike args)
         (λ xs ys e. judged_alike bare_typed line 0 _ _ (called_alike line name (row_named name) xs ys e)))
-    expr_alike (syntax_expr.Set line place None value) =
+    expr_alike (syntax_expr.Index line a at) =
+        after_both bare_typed bare_typed bare_typed _ _ _ _ _ _ (expr_alike a) (expr_alike at)
+        (λ x y z w e g. judged_alike bare_typed line 0 _ _ (element_alike x y z w e g))
+    expr_alike (syntax_expr.Deref line a) =
+        after bare_typed bare_typed _ _ _ _ (expr_alike a) (λ x y e. judged_alike bare_typed line 0 _ _ (pointed_alike line x y e))
+    expr_alike (syntax_expr.Address line name) =
+        judged_alike bare_typed line 0 _ _
+        (subst (λ o. AlikeIn bare_typed (address_meant name (variable_of vs name)) (address_meant name o)) (sym (found_bare vs name))
+        (address_alike name (variable_of vs name)))
+    expr_alike (syntax_expr.Before line step place) =
+        after bare_place bare_typed _ _ _ _ (place_in_alike place)
+        (λ p q e. judged_alike bare_typed line 0 _ _ (stepped_alike line (front_step step) p q e))
+    expr_alike (syntax_expr.After line place step) =
+        after bare_place bare_typed _ _ _ _ (place_in_alike place)
+        (λ p q e. judged_alike bare_typed line 0 _ _ (stepped_alike line (back_step step) p q e))
+    expr_alike (syntax_expr.Set line place op value) =
         after_both bare_place bare_typed bare_typed _ _ _ _ _ _ (place_in_alike place) (expr_alike value)
-        (λ p q x y e g. judged_alike bare_typed line 0 _ _ (assigned_alike line p q x y e g))
+        (λ p q x y e g. judged_alike bare_typed line 0 _ _ (set_alike line op p q x y e g))
     expr_alike (syntax_expr.Two line op a b) =
         after_both bare_typed bare_typed bare_typed _ _ _ _ _ _ (expr_alike a) (expr_alike b)
         (λ x y z w e g. judged_alike bare_typed line 0 _ _ (combined_alike op x y z w e g))
@@ -180,7 +204,7 @@ module _ (vs : List Local) where
         (λ t u x y z w d e g. judged_alike bare_typed line 0 _ _ (chosen_alike line t u x y z w d e g))
     expr_alike (syntax_expr.Cast line to a) =
         after bare_typed bare_typed _ _ _ _ (expr_alike a)
-        (λ x y e. judged_alike bare_typed line 0 _ _ (cast_alike (type_named to.name to.stars) x y e))
+        (λ x y e. judged_alike bare_typed line 0 _ _ (cast_alike _ _ (cast_named to.name to.stars) x y (letter_bare vs a) e))
     expr_alike _ = record { is = refl }
 
     exprs_alike : (es : ExprTrees) → Alike (map bare_typed) (exprs vs es) (exprs (bare_locals vs) (unlined_exprs es))
@@ -192,6 +216,10 @@ module _ (vs : List Local) where
         judged_alike bare_place line 0 _ _
         (subst (λ o. AlikeIn bare_place (variable_place name (variable_of vs name)) (variable_place name o)) (sym (found_bare vs name))
         (variable_alike name (variable_of vs name)))
+    place_in_alike (TargetPlace line name) =
+        judged_alike bare_place line 0 _ _
+        (subst (λ o. AlikeIn bare_place (target_place name (variable_of vs name)) (target_place name o)) (sym (found_bare vs name))
+        (target_alike name (variable_of vs name)))
     place_in_alike (StPlace line at) =
         after bare_typed bare_place _ _ _ _ (expr_alike at) (λ x y e. judged_alike bare_place line 0 _ _ (item_alike x y e))
     place_in_alike _ = record { is = refl }

@@ -3,7 +3,7 @@
 use Rattle.std.specs.Prelude.{◌≡◌, ℕ, Bool, true, List, [], ◌∷◌, Option, None, Some, slice_get}
 use Rattle.xs_values.specs.Kinds.{promoted}
 use Rattle.xs_values.specs.declared.kind.Kind.{Kind}
-use Rattle.xs_values.specs.declared.kind.Kind.TheVariants.{I32}
+use Rattle.xs_values.specs.declared.kind.Kind.TheVariants.{I8, I32}
 use Rattle.xs_values.specs.declared.operator.Op.{Op}
 use Rattle.xs_values.specs.declared.unary_operator.UnOp.{UnOp}
 use Rattle.xs_values.specs.Numbers.{Number, result_kind_of, unary_kind_of}
@@ -11,19 +11,21 @@ use Rattle.xs_perlapi.specs.declared.row.ApiType.{ApiType}
 use Rattle.xs_perlapi.specs.declared.row.Row.TheVariants.{Entry, XsReturnYes}
 use Rattle.xs_perlapi.specs.Table.{RowCall, row_named}
 use Rattle.xs_ctree.specs.declared.node.Sort.{Sort}
+use Rattle.xs_ctree.specs.declared.node.StepOp.{StepOp}
 use Rattle.xs_ctree.specs.declared.node.Sort.TheVariants.{Helper, XsFunction, Boot}
 use Rattle.xs_ctree.specs.declared.value_type.Slot.{Slot}
 use Rattle.xs_ctree.specs.declared.value_type.ValueType.{ValueType}
 use Rattle.xs_ctree.specs.declared.value_type.ValueType.TheVariants as type_of
-use Rattle.xs_ctree.specs.TypedTree.{Expr, Exprs, NoExprs, MoreExprs, Literal, Variable, ItemCount, Passed, Cast, Not, Unary, Binary, Same, And, Or, Choice, Assign, Api, Usage, Target, ToVariable, ToItem, Test, Always, When, Stmt, Stmts, NoStmts, MoreStmts, Block, Effect, Declare, If, Loop, Switch, Break, Continue, Return, Give, Quit, Register, Groups, NoGroups, MoreGroups, SetIndex}
+use Rattle.xs_ctree.specs.TypedTree.{Expr, Exprs, NoExprs, MoreExprs, Literal, Letters, Variable, ItemCount, Passed, Cast, ByteAt, Not, Unary, Binary, Same, And, Or, Choice, Address, Letter, Pointed, StepOf, Assign, Compound, Api, Usage, Target, ToVariable, ToPointed, ToItem, Test, Always, When, Stmt, Stmts, NoStmts, MoreStmts, Block, Effect, Declare, If, Loop, Switch, Break, Continue, Return, Give, Quit, Register, Groups, NoGroups, MoreGroups, SetIndex}
 use Rattle.xs_ctypes.specs.Checked.{Fine}
 use Rattle.xs_ccheck.specs.StmtTyping.{may_return}
-use Rattle.xs_ctypes.specs.ValueTypes.{are_conditions, casts, compares, goes_into, is_condition, is_number, is_operand, of_choice, result_type}
+use Rattle.xs_ctypes.specs.ValueTypes.{are_conditions, are_numbers, casts, compares, goes_into, is_char, is_condition, is_element, is_number, is_operand, of_address, of_choice, of_pointed, result_type}
 
 mutual
   -- an expression has a type
   pub data HasType (slots : List Slot) : Expr → ValueType → Type 0 where
     number : {n : Number} → HasType slots (Literal n) (type_of.Number n.kind)
+    letters : {text : List ℕ} → HasType slots (Letters text) type_of.Text
     variable : {x : ℕ} {s : Slot} → slice_get slots x ≡ Some s
         → HasType slots (Variable x) s.of_type
     item_count : HasType slots ItemCount (type_of.Number I32)
@@ -49,6 +51,19 @@ mutual
         → HasType slots (Choice at t test a b) t
     assignment : {at : ℕ} {to : Target} {e : Expr} {t from : ValueType} → IsTarget slots to t
         → HasType slots e from → goes_into from t ≡ true → HasType slots (Assign at to e) t
+    compound : {at : ℕ} {op : Op} {to : Target} {e : Expr} {t from : ValueType}
+        → IsTarget slots to t → HasType slots e from → are_numbers t from ≡ true
+        → HasType slots (Compound at to op e) t
+    step : {at : ℕ} {op : StepOp} {to : Target} {t : ValueType} → IsTarget slots to t
+        → is_number t ≡ true → HasType slots (StepOf at op to) t
+    address : {x : ℕ} {s : Slot} {t : ValueType} → slice_get slots x ≡ Some s
+        → of_address s.of_type ≡ Fine t → HasType slots (Address x) t
+    letter : {x : ℕ} {s : Slot} → slice_get slots x ≡ Some s → is_char s.of_type ≡ true
+        → HasType slots (Letter x) type_of.Text
+    pointed : {at : ℕ} {e : Expr} {t u : ValueType} → HasType slots e t → of_pointed t ≡ Fine u
+        → HasType slots (Pointed at u e) u
+    element : {e i : Expr} {t u : ValueType} → HasType slots e t → HasType slots i u
+        → is_element t u ≡ true → HasType slots (ByteAt e i) (type_of.Number I8)
     row : {at : ℕ} (name : List ℕ) {r : RowCall} {es : Exprs} → row_named name ≡ Some r
         → AreOperands slots r.operands es → HasType slots (Api at r.row es) (result_type r.result)
     usage : {at : ℕ} {text : List ℕ} → HasType slots (Usage at text) type_of.Void
@@ -64,6 +79,8 @@ mutual
   pub data IsTarget (slots : List Slot) : Target → ValueType → Type 0 where
     to_variable : {x : ℕ} {s : Slot} → slice_get slots x ≡ Some s
         → IsTarget slots (ToVariable x s.of_type) s.of_type
+    to_pointed : {x : ℕ} {s : Slot} {k : Kind} → slice_get slots x ≡ Some s
+        → s.of_type ≡ type_of.Address k → IsTarget slots (ToPointed x k) (type_of.Number k)
     to_item : {e : Expr} {t : ValueType} → HasType slots e t → is_number t ≡ true
         → IsTarget slots (ToItem e) type_of.Scalar
 

@@ -1,6 +1,7 @@
 -- What an expression is where it stands: its code and its type, or the first fault in it. One rule
 -- for each form.
-use Rattle.std.specs.Prelude.{ℕ, pos, Bool, true, false, ◌&&◌, if◌then◌else◌, nat_eq, List, [], ◌∷◌, map, length, Option, Some, None, codes}
+use Rattle.std.specs.Prelude.{ℕ, pos, Bool, true, false, ◌&&◌, not, if◌then◌else◌, nat_eq, List, [], ◌∷◌, map, length, Option, Some, None, codes}
+use Rattle.std.specs.Option.{is_some}
 use Rattle.std.specs.Str.{bytes_eq}
 use Rattle.xs_base.specs.declared.fault_codes.TheConstants.{UNKNOWN_NAME, UNKNOWN_FUNCTION, TYPES_DIFFER, WRONG_NUMBER_OF_ARGUMENTS, NOT_ASSIGNABLE}
 use Rattle.xs_values.specs.declared.kind.Kind.{Kind}
@@ -16,18 +17,23 @@ use Rattle.xs_values.specs.Literals.{literal_kind_of}
 use Rattle.xs_values.specs.Numbers.{wrapped}
 use Rattle.xs_cinput.specs.declared.tree.BinaryOp.{BinaryOp}
 use Rattle.xs_cinput.specs.declared.tree.BinaryOp.TheVariants as c
+use Rattle.xs_cinput.specs.declared.tree.Step.{Step}
+use Rattle.xs_cinput.specs.declared.tree.Step.TheVariants.{Up, Down}
 use Rattle.xs_cexpr.specs.ExpressionTree as syntax
 use Rattle.xs_cexpr.specs.ExpressionTree.{ExprTree, ExprTrees, PlaceTree, VarPlace, TargetPlace, FieldPlace, StPlace}
 use Rattle.xs_perlapi.specs.declared.row.ApiType.{ApiType}
-use Rattle.xs_perlapi.specs.Table.{RowCall, row_named}
+use Rattle.xs_perlapi.specs.declared.row.Written.TheVariants as written
+use Rattle.xs_perlapi.specs.Table.{RowCall, row_named, word_written}
+use Rattle.xs_ctree.specs.declared.node.StepOp.{StepOp}
+use Rattle.xs_ctree.specs.declared.node.StepOp.TheVariants as step_op
 use Rattle.xs_ctree.specs.declared.value_type.Slot.{Slot}
 use Rattle.xs_ctree.specs.declared.value_type.ValueType.{ValueType}
 use Rattle.xs_ctree.specs.declared.value_type.ValueType.TheVariants as type_of
-use Rattle.xs_ctree.specs.TypedTree.{Expr, Literal, Variable, ItemCount, Passed, Cast, Not, Unary, Binary, Same, And, Or, Choice, Assign, Api, Usage, Target, ToVariable, ToItem, exprs_of}
+use Rattle.xs_ctree.specs.TypedTree.{Expr, Literal, Letters, Variable, ItemCount, Passed, Cast, ByteAt, Not, Unary, Binary, Same, And, Or, Choice, Address, Letter, Pointed, StepOf, Assign, Compound, Api, Usage, Target, ToVariable, ToPointed, ToItem, exprs_of}
 use Rattle.xs_ctypes.specs.Checked.{Checked, Fine, Good, Judged, Wrong, behind, both, judged, more, three, unbuilt, unknown, when}
 use Rattle.xs_ctypes.specs.Scopes.{Local, variable_of}
-use Rattle.xs_ctypes.specs.TypeNames.{type_named}
-use Rattle.xs_ctypes.specs.ValueTypes.{are_conditions, are_numbers, compares, differ, goes_into, is_condition, is_equality, is_number, is_operand, of_cast, of_choice, of_numbers, of_promoted, result_type}
+use Rattle.xs_ctypes.specs.TypeNames.{cast_named}
+use Rattle.xs_ctypes.specs.ValueTypes.{are_conditions, are_numbers, compares, differ, goes_into, is_address, is_char, is_condition, is_element, is_equality, is_number, is_operand, is_text, of_address, of_cast, of_choice, of_numbers, of_pointed, of_promoted, result_type}
 
 -- an expression with its type
 pub record TypedExpr : Type 0 where
@@ -70,6 +76,9 @@ literal base suffix n = number (literal_kind_of Lp64 base suffix n) n
 abbrev pub character : ℕ → TypedExpr
 character byte =
     as_typed (Literal (wrapped I32 (wrapped I8 (pos byte)).value)) (type_of.Number I32)
+
+abbrev pub letters : List ℕ → TypedExpr
+letters text = as_typed (Letters text) type_of.Text
 
 -- ---- operators, casts and assignments
 
@@ -121,15 +130,84 @@ chosen line test x y =
     typed (λ t. Choice line t test.tree x.tree y.tree)
     (of_choice test.of_type x.of_type y.of_type)
 
-abbrev pub cast : Option ValueType → TypedExpr → Judged TypedExpr
-cast to x = typed (λ t. Cast t x.tree) (of_cast to x.of_type)
+abbrev pub converted : Option ValueType → TypedExpr → Judged TypedExpr
+converted to x = typed (λ t. Cast t x.tree) (of_cast to x.of_type)
+
+abbrev pub is_text_type : Option ValueType → Bool
+is_text_type None = false
+is_text_type (Some t) = is_text t
+
+-- the slot of a `char`
+abbrev pub char_slot : Option Slot → Option ℕ
+char_slot None = None
+char_slot (Some v) = if is_char v.of_type then Some v.number else None
+
+-- the slot of a `char` whose address an expression is
+abbrev pub letter_in : List Local → ExprTree → Option ℕ
+letter_in variables (syntax.Address line name) = char_slot (variable_of variables name)
+letter_in variables _ = None
+
+-- A cast. The address of a `char` is cast to a text, which is the byte of the variable.
+abbrev pub cast : Option ℕ → Option ValueType → TypedExpr → Judged TypedExpr
+cast None to x = converted to x
+cast (Some slot) to x =
+    if is_text_type to then Fine (as_typed (Letter slot) type_of.Text) else converted to x
+
+-- ---- pointers
+
+abbrev pub pointed : ℕ → TypedExpr → Judged TypedExpr
+pointed line x = typed (λ t. Pointed line t x.tree) (of_pointed x.of_type)
+
+-- a byte of a text
+abbrev pub element : TypedExpr → TypedExpr → Judged TypedExpr
+element x at =
+    when (is_element x.of_type at.of_type) (as_typed (ByteAt x.tree at.tree) (type_of.Number I8))
+    TYPES_DIFFER []
+
+-- the address of a name that is no variable; those of Perl's scalars are not built yet
+abbrev pub other_address : {A : Type 0} → List ℕ → Judged A
+other_address name =
+    if is_some (word_written written.Address name) then unbuilt
+    else if bytes_eq name (codes "items") then Wrong NOT_ASSIGNABLE []
+    else unknown UNKNOWN_NAME name
+
+abbrev pub address_of : Slot → Judged TypedExpr
+address_of v = typed (λ t. Address v.number) (of_address v.of_type)
+
+abbrev pub address_meant : List ℕ → Option Slot → Judged TypedExpr
+address_meant name None = other_address name
+address_meant name (Some v) = address_of v
+
+-- ---- what is assigned to
+
+abbrev pub variable_target : Slot → TypedTarget
+variable_target v = record { target = ToVariable v.number v.of_type; of_type = v.of_type }
+
+abbrev pub not_assigned : Judged TypedTarget
+not_assigned = Wrong NOT_ASSIGNABLE []
+
+-- no pointer to a variable is assigned to
+abbrev pub known_place : Slot → Judged TypedTarget
+known_place v = when (not (is_address v.of_type)) (variable_target v) NOT_ASSIGNABLE []
 
 -- the item count is not assignable
 abbrev pub variable_place : List ℕ → Option Slot → Judged TypedTarget
 variable_place name None =
     if bytes_eq name (codes "items") then Wrong NOT_ASSIGNABLE [] else unknown UNKNOWN_NAME name
-variable_place name (Some v) =
-    Fine (record { target = ToVariable v.number v.of_type; of_type = v.of_type })
+variable_place name (Some v) = known_place v
+
+-- What a pointer in a slot points to. No byte of a text is written, and no place of a scalar.
+abbrev pub target_of : ℕ → ValueType → Judged TypedTarget
+target_of slot (type_of.Address kind) =
+    Fine (record { target = ToPointed slot kind; of_type = type_of.Number kind })
+target_of slot type_of.Text = Wrong NOT_ASSIGNABLE []
+target_of slot type_of.Place = Wrong NOT_ASSIGNABLE []
+target_of slot _ = differ
+
+abbrev pub target_place : List ℕ → Option Slot → Judged TypedTarget
+target_place name None =
+    if bytes_eq name (codes "items") then differ else unknown UNKNOWN_NAME name
+target_place name (Some v) = target_of v.number v.of_type
 
 abbrev pub item_place : TypedExpr → Judged TypedTarget
 item_place x =
@@ -140,6 +218,29 @@ abbrev pub assigned : ℕ → TypedTarget → TypedExpr → Judged TypedExpr
 assigned line to x =
     when (goes_into x.of_type to.of_type) (as_typed (Assign line to.target x.tree) to.of_type)
     TYPES_DIFFER []
+
+-- an assignment with an operator
+abbrev pub compounded : ℕ → Op → TypedTarget → TypedExpr → Judged TypedExpr
+compounded line op to x =
+    when (are_numbers to.of_type x.of_type)
+    (as_typed (Compound line to.target op x.tree) to.of_type) TYPES_DIFFER []
+
+abbrev pub set_to : ℕ → Option Op → TypedTarget → TypedExpr → Judged TypedExpr
+set_to line None to x = assigned line to x
+set_to line (Some op) to x = compounded line op to x
+
+-- a step in front of a place, and one behind it
+abbrev pub front_step : Step → StepOp
+front_step Up = step_op.PrefixIncrement
+front_step Down = step_op.PrefixDecrement
+
+abbrev pub back_step : Step → StepOp
+back_step Up = step_op.PostfixIncrement
+back_step Down = step_op.PostfixDecrement
+
+abbrev pub stepped : ℕ → StepOp → TypedTarget → Judged TypedExpr
+stepped line op to =
+    when (is_number to.of_type) (as_typed (StepOf line op to.target) to.of_type) TYPES_DIFFER []
 
 -- ---- calls
 
@@ -201,29 +302,33 @@ module _ (variables : List Local) where
     expr (syntax.Var line name) = judged line (name_meant name (variable_of variables name))
     expr (syntax.Num line value) = Good (literal value.base value.suffix value.value)
     expr (syntax.Chr line byte) = Good (character byte)
-    expr (syntax.Str line text) = judged line differ
+    expr (syntax.Str line text) = Good (letters text)
     expr (syntax.Paren line a) = behind (expr a) (λ x. Good (passed x))
     expr (syntax.One line op a) = behind (expr a) (λ x. judged line (prefixed op x))
     expr (syntax.Call line name args) =
         if bytes_eq name usage_word then judged line (usage line args)
         else behind (exprs args) (λ xs. judged line (called line name (row_named name) xs))
-    expr (syntax.Set line place None value) =
-        both (place_in place) (expr value) (λ to x. judged line (assigned line to x))
+    expr (syntax.Index line a at) =
+        both (expr a) (expr at) (λ x i. judged line (element x i))
+    expr (syntax.Deref line a) = behind (expr a) (λ x. judged line (pointed line x))
+    expr (syntax.Address line name) =
+        judged line (address_meant name (variable_of variables name))
+    expr (syntax.Before line step place) =
+        behind (place_in place) (λ to. judged line (stepped line (front_step step) to))
+    expr (syntax.After line place step) =
+        behind (place_in place) (λ to. judged line (stepped line (back_step step) to))
+    expr (syntax.Set line place op value) =
+        both (place_in place) (expr value) (λ to x. judged line (set_to line op to x))
     expr (syntax.Two line op a b) =
         both (expr a) (expr b) (λ x y. judged line (combined op x y))
     expr (syntax.Choice line test a b) =
         three (expr test) (expr a) (expr b) (λ t x y. judged line (chosen line t x y))
     expr (syntax.Cast line to a) =
-        behind (expr a) (λ x. judged line (cast (type_named to.name to.stars) x))
+        behind (expr a)
+        (λ x. judged line (cast (letter_in variables a) (cast_named to.name to.stars) x))
     -- not built yet
     expr (syntax.Int2Ptr line to a) = judged line unbuilt
-    expr (syntax.Index line a at) = judged line unbuilt
     expr (syntax.Arrow line name field) = judged line unbuilt
-    expr (syntax.Deref line a) = judged line unbuilt
-    expr (syntax.Address line name) = judged line unbuilt
-    expr (syntax.Before line step place) = judged line unbuilt
-    expr (syntax.After line place step) = judged line unbuilt
-    expr (syntax.Set line place (Some o) value) = judged line unbuilt
 
     pub exprs : ExprTrees → Checked (List TypedExpr)
     exprs syntax.NoExprs = Good []
@@ -233,8 +338,9 @@ module _ (variables : List Local) where
     place_in (VarPlace line name) =
         judged line (variable_place name (variable_of variables name))
     place_in (StPlace line at) = behind (expr at) (λ x. judged line (item_place x))
+    place_in (TargetPlace line name) =
+        judged line (target_place name (variable_of variables name))
     -- not built yet
-    place_in (TargetPlace line name) = judged line unbuilt
     place_in (FieldPlace line name field) = judged line unbuilt
 
 -- an expression, where there is one

@@ -96,7 +96,12 @@ items_at names at (i ∷ rest) = AnItem names at i ∷ items_at names (at + 1) r
 abbrev pub parts_of_expr : List Local → ExprTree → List Node
 parts_of_expr variables (syntax.Call line name args) =
     if bytes_eq name usage_word then [] else exprs_at variables args
-parts_of_expr variables (syntax.Set line place None value) =
+parts_of_expr variables (syntax.Index line a at) =
+    AnExpr variables a ∷ AnExpr variables at ∷ []
+parts_of_expr variables (syntax.Deref line a) = AnExpr variables a ∷ []
+parts_of_expr variables (syntax.Before line step place) = APlace variables place ∷ []
+parts_of_expr variables (syntax.After line place step) = APlace variables place ∷ []
+parts_of_expr variables (syntax.Set line place op value) =
     APlace variables place ∷ AnExpr variables value ∷ []
 parts_of_expr variables (syntax.Paren line a) = AnExpr variables a ∷ []
 parts_of_expr variables (syntax.One line op a) = AnExpr variables a ∷ []

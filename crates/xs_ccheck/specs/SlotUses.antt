@@ -4,7 +4,7 @@
 use Rattle.std.specs.Prelude.{◌≡◌, ℕ, ◌+◌, true, false, if◌then◌else◌, List, [], ◌∷◌, ◌++◌, map, Option, Some, None, slice_get}
 use Rattle.std.specs.Str.{bytes_eq}
 use Rattle.xs_cexpr.specs.ExpressionTree as syntax
-use Rattle.xs_cexpr.specs.ExpressionTree.{ExprTree, ExprTrees, PlaceTree, VarPlace, StPlace}
+use Rattle.xs_cexpr.specs.ExpressionTree.{ExprTree, ExprTrees, PlaceTree, VarPlace, TargetPlace, StPlace}
 use Rattle.xs_cstmt.specs.StatementTree as statement
 use Rattle.xs_cstmt.specs.StatementTree.{DeclaratorTree, FirstTree, StmtTree, StmtTrees, GroupTrees}
 use Rattle.xs_ctree.specs.declared.value_type.Slot.{Slot}
@@ -178,7 +178,12 @@ module _ (names : List Named) where
     meant_in_expr (syntax.Var line name) = use_of (last_declared names name)
     meant_in_expr (syntax.Call line name args) =
         if bytes_eq name usage_word then [] else meant_in_exprs args
-    meant_in_expr (syntax.Set line place None value) =
+    meant_in_expr (syntax.Index line a at) = meant_in_expr a ++ meant_in_expr at
+    meant_in_expr (syntax.Deref line a) = meant_in_expr a
+    meant_in_expr (syntax.Address line name) = use_of (last_declared names name)
+    meant_in_expr (syntax.Before line step place) = meant_in_place place
+    meant_in_expr (syntax.After line place step) = meant_in_place place
+    meant_in_expr (syntax.Set line place op value) =
         meant_in_place place ++ meant_in_expr value
     meant_in_expr (syntax.Paren line a) = meant_in_expr a
     meant_in_expr (syntax.One line op a) = meant_in_expr a
@@ -194,6 +199,7 @@ module _ (names : List Named) where
 
     pub meant_in_place : PlaceTree → List SlotUse
     meant_in_place (VarPlace line name) = use_of (last_declared names name)
+    meant_in_place (TargetPlace line name) = use_of (last_declared names name)
     meant_in_place (StPlace line at) = meant_in_expr at
     meant_in_place _ = []
 

@@ -1,26 +1,27 @@
 //! Expressions: names become slots, and types are checked.
 ghost use Rattle.std.specs.Prelude.{◌≡◌, Ok, Some, length, map, option_map, true, []};
-ghost use Rattle.xs_cexpr.specs.ExpressionTree.{Call, Choice, Set, Two, exprs_of};
+ghost use Rattle.xs_cexpr.specs.ExpressionTree.{Call, Choice, Index, Set, Two, exprs_of};
 ghost use Rattle.xs_cexpr.specs.ExpressionViews.{expr_tree, place_tree};
 ghost use Rattle.xs_ctree.specs.Arena.{expr_fits, expr_from};
 ghost use Rattle.xs_ctree.specs.Functions.{arena_of, expr_in};
 ghost use Rattle.xs_ctree.specs.Growth.{HasExpr};
 ghost use Rattle.xs_ctree.specs.declared.typed.Typed.{Typed};
-ghost use Rattle.xs_ctypes.specs.Checked.{Good, judged};
+ghost use Rattle.xs_ctypes.specs.Checked.{Good, behind, judged};
 ghost use Rattle.xs_ccheck.specs.ExprTyping as spec;
-ghost use Rattle.xs_ccheck.specs.Resolving.{GivesExpr, GivesExprs, GivesTarget, HasTarget, HasTyped, target_in, typed_in};
+ghost use Rattle.xs_ccheck.specs.Resolving.{GivesExpr, GivesExprs, GivesTarget};
 
 use crate::calls::{called, usage};
-use crate::operators::{cast, chosen, combined, passed, prefixed};
-use std::alloc::Global;
-use xs_base::fault_codes::{NOT_ASSIGNABLE, UNKNOWN_NAME};
-use xs_base::{Bytes, Fault, FileOf, Refuse};
-use xs_csyn::{BinaryOp, Expr, Place};
-use xs_ctree::{ExprNode, Slot, TargetNode, Typed, ValueType};
-use xs_ctypes::{
-    Scope, both, goes_into, is, is_number, not_built, settled, take_up, type_named, types_differ,
-    unknown,
+use crate::operators::{chosen, combined, passed, prefixed};
+use crate::places::{
+    back_step, front_step, item_place, set_to, stepped, target_place, variable_place,
 };
+use crate::pointers::{address_meant, cast, element, letter_in, pointed};
+use std::alloc::Global;
+use xs_base::fault_codes::UNKNOWN_NAME;
+use xs_base::{Bytes, Refuse};
+use xs_csyn::{BinaryOp, Expr, Place};
+use xs_ctree::{ExprNode, Slot, StepOp, TargetNode, Typed, ValueType};
+use xs_ctypes::{Scope, both, cast_named, is, not_built, settled, take_up, unknown};
 use xs_perlapi::row_named;
 use xs_values::{Base, DataModel, Kind, Op, Suffix, literal_kind, wrap};
 
@@ -84,6 +85,18 @@ fn character(typed: &mut Typed, byte: u8) -> Result<TypedNode, Refuse>
     )
 }
 
+// A text literal.
+fn letters(alloc: Global, typed: &mut Typed, text: &Bytes) -> Result<TypedNode, Refuse>
+    ensures { GivesExpr result typed.old typed.new (Good (spec.letters text.now)) }
+{
+    let text = text.copy(alloc)?;
+    let node = typed.add_letters(text)?;
+    Ok(TypedNode {
+        node,
+        of_type: ValueType::Text,
+    })
+}
+
 // A name that is no variable.
 fn other_name(alloc: Global, typed: &mut Typed, line: u32, name: &[u8]) -> Result<TypedNode, Refuse>
     ensures { GivesExpr result typed.old typed.new (judged line (spec.other_name name.now)) }
@@ -110,62 +123,6 @@ pub(crate) fn name_meant(
     }
 }
 
-// ---- assignments
-
-fn variable_place(
-    alloc: Global,
-    line: u32,
-    name: &[u8],
-    variable: Option<Slot>,
-) -> Result<PlaceNode, Refuse>
-    ensures { (t : Typed)
-        → GivesTarget result t t (judged line (spec.variable_place name.now variable)) }
-{
-    if let Some(v) = variable {
-        return Ok(PlaceNode {
-            target: TargetNode::Variable(v.number, v.of_type),
-            of_type: v.of_type,
-        });
-    }
-    if is(name, b"items") {
-        return Err(Refuse::Fault(Fault::bare(alloc, FileOf::Text, line, NOT_ASSIGNABLE)));
-    }
-    Err(Refuse::Fault(unknown(alloc, UNKNOWN_NAME, line, name)?))
-}
-
-fn item_place(alloc: Global, line: u32, x: TypedNode) -> Result<PlaceNode, Refuse>
-    ensures { (t : Typed) → HasTyped t x
-        → GivesTarget result t t (judged line (spec.item_place (typed_in t x))) }
-{
-    if is_number(x.of_type) {
-        Ok(PlaceNode {
-            target: TargetNode::Item(x.node),
-            of_type: ValueType::Scalar,
-        })
-    } else {
-        Err(types_differ(alloc, line))
-    }
-}
-
-fn assigned(
-    alloc: Global,
-    typed: &mut Typed,
-    line: u32,
-    to: PlaceNode,
-    x: TypedNode,
-) -> Result<TypedNode, Refuse>
-    requires to_in { HasTarget typed.old to }
-    requires x_in { HasTyped typed.old x }
-    ensures { GivesExpr result typed.old typed.new
-        (judged line (spec.assigned line (target_in typed.old to) (typed_in typed.old x))) }
-{
-    if goes_into(x.of_type, to.of_type) {
-        typed_as(typed, ExprNode::Assign(line, to.target, x.node), to.of_type)
-    } else {
-        Err(types_differ(alloc, line))
-    }
-}
-
 // ---- any expression
 
 #[cycle(expr)]
@@ -180,16 +137,13 @@ pub(crate) fn expr(
         (spec.expr scope.now.variables (expr_tree e.now)) }
 {
     match e {
-        Expr::Name(line, name) => name_meant(
-            alloc,
-            typed,
-            *line,
-            name.as_slice(),
-            scope.variable(name.as_slice()),
-        ),
+        Expr::Name(line, name) => {
+            let word = name.as_slice();
+            name_meant(alloc, typed, *line, word, scope.variable(word))
+        }
         Expr::Int(_, value) => literal(typed, value.base, value.suffix, value.value),
         Expr::Char(_, byte) => character(typed, *byte),
-        Expr::Text(line, _) => Err(types_differ(alloc, *line)),
+        Expr::Text(_, text) => letters(alloc, typed, text),
         Expr::Paren(_, a) => {
             let x = expr(alloc, typed, scope, a)?;
             passed(typed, x)
@@ -206,16 +160,20 @@ pub(crate) fn expr(
         Expr::Choice(line, test, a, b) => choice(alloc, typed, scope, *line, test, a, b),
         Expr::Cast(line, to, a) => {
             let x = expr(alloc, typed, scope, a)?;
-            let of_type = type_named(&to.name, to.stars);
-            cast(alloc, typed, *line, of_type, x)
+            let of_type = cast_named(&to.name, to.stars);
+            cast(alloc, typed, *line, letter_in(scope, a), of_type, x)
         }
-        Expr::Int2Ptr(line, _, _)
-        | Expr::Index(line, _, _)
-        | Expr::Arrow(line, _, _)
-        | Expr::Deref(line, _)
-        | Expr::Address(line, _)
-        | Expr::Before(line, _, _)
-        | Expr::After(line, _, _) => Err(not_built(alloc, *line)),
+        Expr::Index(line, a, at) => index(alloc, typed, scope, *line, a, at),
+        Expr::Deref(line, a) => {
+            let x = expr(alloc, typed, scope, a)?;
+            pointed(alloc, typed, *line, x)
+        }
+        Expr::Address(line, name) => address_meant(alloc, typed, scope, *line, name.as_slice()),
+        Expr::Before(line, by, place) => {
+            step(alloc, typed, scope, *line, front_step(*by), place)
+        }
+        Expr::After(line, place, by) => step(alloc, typed, scope, *line, back_step(*by), place),
+        Expr::Int2Ptr(line, _, _) | Expr::Arrow(line, _, _) => Err(not_built(alloc, *line)),
     }
 }
 
@@ -234,15 +192,48 @@ fn assign(
     ensures { GivesExpr result typed.old typed.new
         (spec.expr scope.now.variables (Set line (place_tree place.now) op (expr_tree value.now))) }
 {
-    match op {
-        None => {
-            let to = place_in(alloc, typed, scope, place);
-            let x = expr(alloc, typed, scope, value);
-            let (to, x) = both(to, x)?;
-            assigned(alloc, typed, line, to, x)
-        }
-        Some(_) => Err(not_built(alloc, line)),
-    }
+    let to = place_in(alloc, typed, scope, place);
+    let x = expr(alloc, typed, scope, value);
+    let (to, x) = both(to, x)?;
+    set_to(alloc, typed, line, op, to, x)
+}
+
+// A step of a place.
+#[cycle(expr)]
+fn step(
+    alloc: Global,
+    typed: &mut Typed,
+    scope: &Scope,
+    line: u32,
+    op: StepOp,
+    place: &Place,
+) -> Result<TypedNode, Refuse>
+    ensures { GivesExpr result typed.old typed.new
+        (behind (spec.place_in scope.now.variables (place_tree place.now))
+        (λ to. judged line (spec.stepped line op to))) }
+{
+    let to = place_in(alloc, typed, scope, place)?;
+    stepped(alloc, typed, line, op, to)
+}
+
+// A byte of a text.
+#[cycle(expr)]
+#[tactic(auto, using(xs_cstmt::proofs::ViewsCompute::views), unfolding(crate::specs::ExprTyping::expr))]
+fn index(
+    alloc: Global,
+    typed: &mut Typed,
+    scope: &Scope,
+    line: u32,
+    a: &Expr,
+    at: &Expr,
+) -> Result<TypedNode, Refuse>
+    ensures { GivesExpr result typed.old typed.new
+        (spec.expr scope.now.variables (Index line (expr_tree a.now) (expr_tree at.now))) }
+{
+    let x = expr(alloc, typed, scope, a);
+    let y = expr(alloc, typed, scope, at);
+    let (x, y) = both(x, y)?;
+    element(alloc, typed, line, x, y)
 }
 
 // Two operands with an operator between them.
@@ -345,16 +336,18 @@ fn place_in(
         (spec.place_in scope.now.variables (place_tree place.now)) }
 {
     match place {
-        Place::Variable(line, name) => variable_place(
-            alloc,
-            *line,
-            name.as_slice(),
-            scope.variable(name.as_slice()),
-        ),
+        Place::Variable(line, name) => {
+            let word = name.as_slice();
+            variable_place(alloc, *line, word, scope.variable(word))
+        }
+        Place::Target(line, name) => {
+            let word = name.as_slice();
+            target_place(alloc, *line, word, scope.variable(word))
+        }
         Place::St(line, at) => {
             let x = expr(alloc, typed, scope, at)?;
             item_place(alloc, *line, x)
         }
-        Place::Target(line, _) | Place::Field(line, _, _) => Err(not_built(alloc, *line)),
+        Place::Field(line, _, _) => Err(not_built(alloc, *line)),
     }
 }

@@ -11,6 +11,8 @@ mod for_heads;
 mod labels;
 mod laws;
 mod operators;
+mod places;
+mod pointers;
 mod stmt_nodes;
 mod stmts;
 

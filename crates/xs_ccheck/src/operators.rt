@@ -12,7 +12,7 @@ use xs_base::Refuse;
 use xs_csyn::BinaryOp;
 use xs_ctree::{ExprNode, Typed, ValueType};
 use xs_ctypes::{
-    are_conditions, are_numbers, casts, compares, is_condition, is_equality, of_choice, of_numbers,
+    are_conditions, are_numbers, compares, is_condition, is_equality, of_choice, of_numbers,
     of_promoted, types_differ,
 };
 use xs_values::{Kind, Op, UnOp};
@@ -201,23 +201,5 @@ pub(crate) fn chosen(
             let node = ExprNode::Choice(line, t, test.node, a.node, b.node);
             typed_as(typed, node, t)
         }
-    }
-}
-
-// A cast.
-pub(crate) fn cast(
-    alloc: Global,
-    typed: &mut Typed,
-    line: u32,
-    to: Option<ValueType>,
-    x: TypedNode,
-) -> Result<TypedNode, Refuse>
-    requires { HasTyped typed.old x }
-    ensures { GivesExpr result typed.old typed.new
-        (judged line (spec.cast to (typed_in typed.old x))) }
-{
-    match to {
-        Some(to) if casts(x.of_type, to) => typed_as(typed, ExprNode::Cast(to, x.node), to),
-        _ => Err(types_differ(alloc, line)),
     }
 }

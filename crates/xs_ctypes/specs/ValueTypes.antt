@@ -77,6 +77,9 @@ same a b =
 abbrev pub is_text : ValueType → Bool
 is_text t = same t type_of.Text
 
+abbrev pub is_char : ValueType → Bool
+is_char t = same t (type_of.Number kinds.I8)
+
 -- whether the type is that of NULL alone
 abbrev pub is_null : ValueType → Bool
 is_null t = same t type_of.Null
@@ -96,11 +99,31 @@ abbrev pub is_condition : ValueType → Bool
 is_condition type_of.Void = false
 is_condition _ = true
 
+-- what Perl keeps things in: a cast among these keeps the thing
+abbrev pub is_thing : ValueType → Bool
+is_thing type_of.Scalar = true
+is_thing type_of.Array = true
+is_thing type_of.Hash = true
+is_thing _ = false
+
+abbrev pub is_record : ValueType → Bool
+is_record (type_of.Record index) = true
+is_record _ = false
+
+abbrev pub is_untyped : ValueType → Bool
+is_untyped t = same t type_of.Untyped
+
+-- What is cast to a pointer: its own type, NULL, a thing to a thing, and a record to `void *`.
+abbrev pub casts_pointer : ValueType → ValueType → Bool
+casts_pointer from to =
+    (same from to || is_null from)
+    || ((is_thing from && is_thing to) || (is_record from && is_untyped to))
+
 -- what is cast to a type
 abbrev pub casts : ValueType → ValueType → Bool
 casts from (type_of.Number kind) = is_number from
-casts from type_of.Scalar = is_scalar from
-casts from _ = false
+casts from type_of.Void = true
+casts from to = casts_pointer from to
 
 abbrev pub of_cast : Option ValueType → ValueType → Judged ValueType
 of_cast None from = differ
@@ -153,6 +176,27 @@ compares a b =
 abbrev pub of_two : Op → ValueType → ValueType → Judged ValueType
 of_two op a b =
     if are_numbers a b then of_numbers op a b else of_truth (compares a b && is_equality op)
+
+-- what a pointer points to
+abbrev pub of_pointed : ValueType → Judged ValueType
+of_pointed type_of.Text = Fine (type_of.Number kinds.I8)
+of_pointed type_of.Place = Fine type_of.Scalar
+of_pointed (type_of.Address kind) = Fine (type_of.Number kind)
+of_pointed _ = differ
+
+-- the address of a variable
+abbrev pub of_address : ValueType → Judged ValueType
+of_address (type_of.Number kind) = Fine (type_of.Address kind)
+of_address _ = differ
+
+-- whether a type is that of a pointer to a variable
+abbrev pub is_address : ValueType → Bool
+is_address (type_of.Address kind) = true
+is_address _ = false
+
+-- whether a text has a byte at an index
+abbrev pub is_element : ValueType → ValueType → Bool
+is_element text at = is_text text && is_number at
 
 -- two numbers of which one is chosen
 abbrev pub of_common : ValueType → ValueType → Judged ValueType

@@ -89,10 +89,18 @@ fn same(a: ValueType, b: ValueType) -> bool
     one.0 == other.0 && one.1 == other.1
 }
 
-fn is_text(t: ValueType) -> bool
+/// Whether a type is that of a text.
+pub fn is_text(t: ValueType) -> bool
     ensures { result ≡ spec.is_text t }
 {
     same(t, ValueType::Text)
+}
+
+/// Whether a type is `char`.
+pub fn is_char(t: ValueType) -> bool
+    ensures { result ≡ spec.is_char t }
+{
+    same(t, ValueType::Number(Kind::I8))
 }
 
 fn is_null(t: ValueType) -> bool
@@ -125,14 +133,48 @@ pub fn is_condition(t: ValueType) -> bool
     }
 }
 
+fn is_thing(t: ValueType) -> bool
+    ensures { result ≡ spec.is_thing t }
+{
+    match t {
+        ValueType::Scalar | ValueType::Array | ValueType::Hash => true,
+        _ => false,
+    }
+}
+
+fn is_record(t: ValueType) -> bool
+    ensures { result ≡ spec.is_record t }
+{
+    match t {
+        ValueType::Record(_) => true,
+        _ => false,
+    }
+}
+
+fn is_untyped(t: ValueType) -> bool
+    ensures { result ≡ spec.is_untyped t }
+{
+    same(t, ValueType::Untyped)
+}
+
+// What is cast to a pointer.
+fn casts_pointer(from: ValueType, to: ValueType) -> bool
+    ensures { result ≡ spec.casts_pointer from to }
+{
+    let own = same(from, to) || is_null(from);
+    let thing = is_thing(from) && is_thing(to);
+    let untyped = is_record(from) && is_untyped(to);
+    own || (thing || untyped)
+}
+
 /// What is cast to a type.
 pub fn casts(from: ValueType, to: ValueType) -> bool
     ensures { result ≡ spec.casts from to }
 {
     match to {
         ValueType::Number(_) => is_number(from),
-        ValueType::Scalar => is_scalar(from),
-        _ => false,
+        ValueType::Void => true,
+        _ => casts_pointer(from, to),
     }
 }
 
@@ -183,6 +225,45 @@ pub fn compares(a: ValueType, b: ValueType) -> bool
     ensures { result ≡ spec.compares a b }
 {
     is_pointer(a) && is_pointer(b) && ((same(a, b) && !is_text(a)) || is_null(a) || is_null(b))
+}
+
+/// What a pointer of a type points to.
+pub fn of_pointed(t: ValueType) -> Option<ValueType>
+    ensures { spec.of_pointed t ≡ spec.or_differ result }
+{
+    match t {
+        ValueType::Text => Some(ValueType::Number(Kind::I8)),
+        ValueType::Place => Some(ValueType::Scalar),
+        ValueType::Address(kind) => Some(ValueType::Number(kind)),
+        _ => None,
+    }
+}
+
+/// The type of the address of a variable of a type.
+pub fn of_address(t: ValueType) -> Option<ValueType>
+    ensures { spec.of_address t ≡ spec.or_differ result }
+{
+    match t {
+        ValueType::Number(kind) => Some(ValueType::Address(kind)),
+        _ => None,
+    }
+}
+
+/// Whether a type is that of a pointer to a variable.
+pub fn is_address(t: ValueType) -> bool
+    ensures { result ≡ spec.is_address t }
+{
+    match t {
+        ValueType::Address(_) => true,
+        _ => false,
+    }
+}
+
+/// Whether a text has a byte at an index.
+pub fn is_element(text: ValueType, at: ValueType) -> bool
+    ensures { result ≡ spec.is_element text at }
+{
+    is_text(text) && is_number(at)
 }
 
 // The type of one of two numbers.

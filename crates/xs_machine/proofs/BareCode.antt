@@ -1,19 +1,19 @@
 -- Code runs as it does without its places.
-use Rattle.std.proofs.Common.{◌≡◌, ℕ, zero, suc, List, [], ◌∷◌, map, length, Option, Some, None, refl, sym, ap, ap₂, ◌∙◌}
+use Rattle.std.proofs.Common.{◌≡◌, ℕ, zero, suc, List, Option, Some, None, refl, sym, ap, ap₂, ◌∙◌}
 use Rattle.std.specs.Option.{option_map}
-use Rattle.std.specs.Prelude.{Bool, false, replicate, slice_get}
+use Rattle.std.specs.Prelude.{Bool, true, false, replicate}
 use Rattle.std.proofs.lemmas.List.{length-map}
 use Rattle.std.proofs.lemmas.Option.{slice_get-map}
-use Rattle.xs_perlapi.specs.declared.row.Row.TheVariants.{StSet}
+use Rattle.xs_api.specs.declared.api.Operand.{Operand}
 use Rattle.xs_api.specs.declared.api.Operand.TheVariants.{Unset}
 use Rattle.xs_api.specs.World.{World, depths_of}
-use Rattle.xs_ctree.specs.declared.value_type.Slot.{Slot}
 use Rattle.xs_ctree.specs.Functions.{function_at}
-use Rattle.xs_ctree.specs.TypedTree.{Expr, Literal, Variable, ItemCount, Passed, Read, Not, Unary, Cast, Binary, Assign, Api, Usage, ToVariable, ToItem, Exprs, NoExprs, MoreExprs, Stmt, Block, Effect, Declare, If, Quit, Register, Stmts, NoStmts, MoreStmts, Function, Code, bare, bare_expr, bare_exprs, bare_function, bare_slot, bare_stmt, bare_stmts}
+use Rattle.xs_ctree.specs.TypedTree.{Expr, Passed, Read, Not, Unary, Cast, Binary, And, Or, Choice, Assign, Api, ToVariable, ToItem, Exprs, NoExprs, MoreExprs, Stmt, Block, Effect, If, Quit, Register, Stmts, NoStmts, MoreStmts, Function, Code, bare, bare_expr, bare_exprs, bare_function, bare_slot, bare_stmt, bare_stmts}
 use Rattle.xs_machine.specs.Dispatch.{Prims, counted_rows}
-use Rattle.xs_machine.specs.MachineState.{State, Out, Done, Stop, ◌>>=◌, tick, truth_of}
+use Rattle.xs_machine.specs.MachineState.{State, Out, Done, Stop, ◌>>=◌, tick, alone, convert, truth_number, truth_of}
+use Rattle.xs_machine.specs.declared.machine.Alone.TheVariants as alone_of
 use Rattle.xs_machine.specs.Cmean.{choose, eval, evals, exec, exec_all}
-use Rattle.xs_machine.specs.Machine.{Mach, begun_at, begun_state, call_meaning, call_over, entered, run, unless_barred}
+use Rattle.xs_machine.specs.Machine.{Mach, begun_state, call_meaning, call_over, entered, unless_barred}
 use Rattle.xs_machine.specs.Laws.{called_by_meaning, PlacesDoNotMatter}
 use Rattle.xs_machine.proofs.Ends.{call_means}
 
@@ -29,6 +29,13 @@ chosen_alike : {S A : Type 0} (b : Option Bool) (σ : State S) (o p q r : Out S 
 chosen_alike b σ o p q r e g = ap₂ (choose b σ) e g
 
 module _ {S : Type 0} (P : Prims S) where
+  -- the second operand of `&&` and `||`
+  abbrev second : Expr → State S → Out S Operand
+  second b σ = eval P b σ >>= λ u σ1. alone alone_of.Truth u σ1
+
+  second_bare : (b : Expr) (σ : State S) → eval P (bare_expr b) σ ≡ eval P b σ → second (bare_expr b) σ ≡ second b σ
+  second_bare b σ e = goes_alike (eval P (bare_expr b) σ) (eval P b σ) (λ u σ1. alone alone_of.Truth u σ1) (λ u σ1. alone alone_of.Truth u σ1) e (λ u σ1. refl)
+
   mutual
     eval_bare : (e : Expr) (σ : State S) → eval P (bare_expr e) σ ≡ eval P e σ
     eval_bare (Passed e) σ = eval_bare e σ
@@ -37,6 +44,17 @@ module _ {S : Type 0} (P : Prims S) where
     eval_bare (Unary op e) σ = goes_alike _ _ _ _ (eval_bare e σ) (λ v σ1. refl)
     eval_bare (Cast t e) σ = goes_alike _ _ _ _ (eval_bare e σ) (λ v σ1. refl)
     eval_bare (Binary op a b) σ = goes_alike _ _ _ _ (eval_bare a σ) (λ v σ1. goes_alike _ _ _ _ (eval_bare b σ1) (λ u σ2. refl))
+    eval_bare (And a b) σ =
+        goes_alike _ _ _ _ (eval_bare a σ) (λ v σ1. chosen_alike (truth_of v) σ1 (second (bare_expr b) σ1) (second b σ1) _ (Done (truth_number false) σ1)
+        (second_bare b σ1 (eval_bare b σ1)) refl)
+    eval_bare (Or a b) σ =
+        goes_alike _ _ _ _ (eval_bare a σ) (λ v σ1. chosen_alike (truth_of v) σ1 _ (Done (truth_number true) σ1) (second (bare_expr b) σ1) (second b σ1) refl
+        (second_bare b σ1 (eval_bare b σ1)))
+    eval_bare (Choice at t e a b) σ =
+        goes_alike (eval P (bare_expr e) σ >>= λ v σ1. choose (truth_of v) σ1 (eval P (bare_expr a) σ1) (eval P (bare_expr b) σ1))
+        (eval P e σ >>= λ v σ1. choose (truth_of v) σ1 (eval P a σ1) (eval P b σ1)) (λ u σ2. convert t u σ2) (λ u σ2. convert t u σ2)
+        (goes_alike _ _ _ _ (eval_bare e σ) (λ v σ1. chosen_alike (truth_of v) σ1 _ _ _ _ (eval_bare a σ1) (eval_bare b σ1)))
+        (λ u σ2. refl)
     eval_bare (Assign at (ToVariable x t) e) σ = goes_alike _ _ _ _ (eval_bare e σ) (λ v σ1. refl)
     eval_bare (Assign at (ToItem i) e) σ = goes_alike _ _ _ _ (eval_bare e σ) (λ v σ1. goes_alike _ _ _ _ (eval_bare i σ1) (λ u σ2. refl))
     eval_bare (Api at r es) σ = goes_alike _ _ _ _ (evals_bare es σ) (λ vs σ1. refl)

@@ -15,16 +15,16 @@ use Rattle.xs_api.specs.declared.stacks.Depths.{Depths}
 use Rattle.xs_perlapi.specs.declared.row.Row.TheVariants.{StSet, XsEnd}
 use Rattle.xs_ctree.specs.Functions.{function_at}
 use Rattle.xs_ctree.specs.TypedTree as tree
-use Rattle.xs_ctree.specs.TypedTree.{Expr, Literal, Variable, ItemCount, Passed, Read, Not, Unary, Cast, Binary, Assign, Api, Usage, Target, ToVariable, ToItem, NoExprs, MoreExprs, Stmt, Block, Declare, If, Quit, Register, NoStmts, MoreStmts, expr_count, Function, Code}
+use Rattle.xs_ctree.specs.TypedTree.{Expr, Literal, Variable, ItemCount, Passed, Read, Not, Unary, Cast, Binary, And, Or, Choice, Assign, Api, Usage, Target, ToVariable, ToItem, NoExprs, MoreExprs, Stmt, Block, Declare, If, Quit, Register, NoStmts, MoreStmts, expr_count, Function, Code}
 use Rattle.xs_api.specs.World.{World, Swept, Clean, Dirty, depths_of}
 use Rattle.xs_api.specs.Effects.{Effect, Gives, Ends}
 use Rattle.xs_machine.specs.Dispatch.{Prims}
-use Rattle.xs_machine.specs.MachineState.{State, Out, Done, Stop, tick, lift, read_value, assigned, write_var, assign_as, given, calculate, given_or, alone_value, item_count, operate, convert, truth_of, unbuilt}
+use Rattle.xs_machine.specs.MachineState.{State, Out, Done, Stop, tick, lift, read_value, assigned, write_var, assign_as, given, calculate, given_or, alone_value, item_count, operate, convert, truth_number, truth_of, unbuilt}
 use Rattle.xs_api.specs.Limits.{most_items}
 use Rattle.xs_machine.specs.declared.machine.Alone.TheVariants as alone_of
 use Rattle.xs_machine.specs.Dispatch.{counted_rows}
 use Rattle.xs_machine.specs.Cmean.{dropped, exec}
-use Rattle.xs_machine.specs.Machine.{Work, DoExpr, DoExprs, DoStmt, DoStmts, SetVar, OnTop, Operate, ToType, DoRow, Branch, DropTop, Enter, Leave, Mach, passed, popped, undefined_text, run_on, halt, on_top, unwind, at_leave, swept_to, land, fall_off, branch_on, entered, enter, act_assign, act_expr, act_stmt, act, step_at, step, steps, stmt_size, all_size, entry_size, left, run, call_meaning, call_over, is_over, begun_state, unless_barred}
+use Rattle.xs_machine.specs.Machine.{Work, DoExpr, DoExprs, DoStmt, DoStmts, SetVar, OnTop, Operate, ToType, DoRow, Branch, AndThen, OrThen, Pick, DropTop, Enter, Leave, Mach, passed, popped, undefined_text, run_on, halt, on_top, unwind, at_leave, swept_to, land, fall_off, branch_on, entered, enter, act_assign, act_expr, act_stmt, act, step_at, step, steps, stmt_size, all_size, entry_size, left, run, call_meaning, call_over, is_over, begun_state, unless_barred}
 use Rattle.xs_machine.specs.declared.machine.Outcome.TheVariants as outcome
 use Rattle.xs_machine.specs.Laws.{CallMeans, RunEnds}
 use Rattle.xs_machine.proofs.Follows.{Comes, comes_on, comes_by, comes_at, stmt_follows}
@@ -103,6 +103,9 @@ module _ {S : Type 0} (P : Prims S) (code : Code) where
   unwind_below a (ToType t ∷ k) σ = unwind_below a k σ
   unwind_below a (DoRow r n ∷ k) σ = unwind_below a k σ
   unwind_below a (Branch s t ∷ k) σ = unwind_below a k σ
+  unwind_below a (AndThen e ∷ k) σ = unwind_below a k σ
+  unwind_below a (OrThen e ∷ k) σ = unwind_below a k σ
+  unwind_below a (Pick x y ∷ k) σ = unwind_below a k σ
   unwind_below a (DropTop ∷ k) σ = unwind_below a k σ
   unwind_below a (Enter f ∷ k) σ = unwind_below a k σ
 
@@ -166,11 +169,12 @@ module _ {S : Type 0} (P : Prims S) (code : Code) where
   operate_turns op (Scalar p) v σ = omega arith
   operate_turns op Void v σ = omega arith
 
-  branch_left : (b : Option Bool) (x y : Stmt) (k : List Work) (vs : List Operand) (σ : State S)
-      → left code (branch_on P b x y k vs σ) < σ.turns * most + all_size (Branch x y ∷ k)
-  branch_left None x y k vs σ = over_left _ σ.turns (all_size (Branch x y ∷ k)) (unwind_below (Traps trap.Kind) k σ) (omega arith)
-  branch_left (Some true) x y k vs σ = simple (Branch x y ∷ k) (DoStmt x ∷ k) vs σ σ (omega arith) (omega arith)
-  branch_left (Some false) x y k vs σ = simple (Branch x y ∷ k) (DoStmt y ∷ k) vs σ σ (omega arith) (omega arith)
+  branch_left : (b : Option Bool) (held failed : Mach S) (k : List Work) (σ : State S) (size : ℕ) → 0 < size
+      → left code held < σ.turns * most + size → left code failed < σ.turns * most + size
+      → left code (branch_on P b held failed k σ) < σ.turns * most + size
+  branch_left None held failed k σ size h f g = over_left _ σ.turns size (unwind_below (Traps trap.Kind) k σ) h
+  branch_left (Some true) held failed k σ size h f g = f
+  branch_left (Some false) held failed k σ size h f g = g
 
   enter_turn : (turns : ℕ) (f : Function) (k : List Work) (σ : State S) (size : ℕ) → σ.turns ≡ turns → stmt_size f.body + 1 ≤ most → all_size k < size
       → left code (tick turns (unwind P Spent k σ) (λ t. run_on (DoStmt f.body ∷ k) [] (entered f t σ))) < turns * most + size
@@ -207,6 +211,10 @@ module _ {S : Type 0} (P : Prims S) (code : Code) where
   expr_left (Unary op e) k vs σ = simple (DoExpr (Unary op e) ∷ k) (DoExpr e ∷ OnTop (alone_of.Sign op) ∷ k) vs σ σ (omega arith) (omega arith)
   expr_left (Cast t e) k vs σ = simple (DoExpr (Cast t e) ∷ k) (DoExpr e ∷ ToType t ∷ k) vs σ σ (omega arith) (omega arith)
   expr_left (Binary op a b) k vs σ = simple (DoExpr (Binary op a b) ∷ k) (DoExpr a ∷ DoExpr b ∷ Operate op ∷ k) vs σ σ (omega arith) (omega arith)
+  expr_left (And a b) k vs σ = simple (DoExpr (And a b) ∷ k) (DoExpr a ∷ AndThen b ∷ k) vs σ σ (omega arith) (omega arith)
+  expr_left (Or a b) k vs σ = simple (DoExpr (Or a b) ∷ k) (DoExpr a ∷ OrThen b ∷ k) vs σ σ (omega arith) (omega arith)
+  expr_left (Choice at t e a b) k vs σ =
+      simple (DoExpr (Choice at t e a b) ∷ k) (DoExpr e ∷ Pick a b ∷ ToType t ∷ k) vs σ σ (omega arith) (omega arith)
   expr_left (Assign at to e) k vs σ = assign_left at to e k vs σ
   expr_left (Api at r es) k vs σ = simple (DoExpr (Api at r es) ∷ k) (DoExprs es ∷ DoRow r (expr_count es) ∷ k) vs σ σ (omega arith) (omega arith)
   expr_left (Usage at text) k vs σ = land_left ◌∷◌ k vs (lift (P.croak_usage text σ.frame σ.store) σ) σ.turns (all_size (DoExpr (Usage at text) ∷ k))
@@ -247,7 +255,26 @@ module _ {S : Type 0} (P : Prims S) (code : Code) where
       (given_turns _ σ) (omega arith))
   act_left (DoRow r n) k vs σ = land_left ◌∷◌ k (popped n [] vs).1 (lift (P.row r (popped n [] vs).0 σ.frame σ.store) σ) σ.turns (all_size (DoRow r n ∷ k))
       (lift_turns (P.row r (popped n [] vs).0 σ.frame σ.store) σ) (omega arith)
-  act_left (Branch a b) k vs σ = top_left vs σ _ (all_size (Branch a b ∷ k)) (omega arith) (λ v rest. branch_left (truth_of v) a b k rest σ)
+  act_left (Branch a b) k vs σ =
+      top_left vs σ _ (all_size (Branch a b ∷ k)) (omega arith) (λ v rest. branch_left (truth_of v)
+      (run_on (DoStmt a ∷ k) rest σ) (run_on (DoStmt b ∷ k) rest σ) k σ (all_size (Branch a b ∷ k)) (omega arith)
+      (simple (Branch a b ∷ k) (DoStmt a ∷ k) rest σ σ (omega arith) (omega arith))
+      (simple (Branch a b ∷ k) (DoStmt b ∷ k) rest σ σ (omega arith) (omega arith)))
+  act_left (AndThen e) k vs σ =
+      top_left vs σ _ (all_size (AndThen e ∷ k)) (omega arith) (λ v rest. branch_left (truth_of v)
+      (run_on (DoExpr e ∷ OnTop alone_of.Truth ∷ k) rest σ) (run_on k (truth_number false ∷ rest) σ) k σ (all_size (AndThen e ∷ k)) (omega arith)
+      (simple (AndThen e ∷ k) (DoExpr e ∷ OnTop alone_of.Truth ∷ k) rest σ σ (omega arith) (omega arith))
+      (simple (AndThen e ∷ k) k (truth_number false ∷ rest) σ σ (omega arith) (omega arith)))
+  act_left (OrThen e) k vs σ =
+      top_left vs σ _ (all_size (OrThen e ∷ k)) (omega arith) (λ v rest. branch_left (truth_of v)
+      (run_on k (truth_number true ∷ rest) σ) (run_on (DoExpr e ∷ OnTop alone_of.Truth ∷ k) rest σ) k σ (all_size (OrThen e ∷ k)) (omega arith)
+      (simple (OrThen e ∷ k) k (truth_number true ∷ rest) σ σ (omega arith) (omega arith))
+      (simple (OrThen e ∷ k) (DoExpr e ∷ OnTop alone_of.Truth ∷ k) rest σ σ (omega arith) (omega arith)))
+  act_left (Pick a b) k vs σ =
+      top_left vs σ _ (all_size (Pick a b ∷ k)) (omega arith) (λ v rest. branch_left (truth_of v)
+      (run_on (DoExpr a ∷ k) rest σ) (run_on (DoExpr b ∷ k) rest σ) k σ (all_size (Pick a b ∷ k)) (omega arith)
+      (simple (Pick a b ∷ k) (DoExpr a ∷ k) rest σ σ (omega arith) (omega arith))
+      (simple (Pick a b ∷ k) (DoExpr b ∷ k) rest σ σ (omega arith) (omega arith)))
   act_left DropTop k vs σ = top_left vs σ _ (all_size (DropTop ∷ k)) (omega arith) (λ v rest. simple (DropTop ∷ k) k rest σ σ (omega arith) (omega arith))
   act_left (Enter f) k vs σ = enter_left (function_at code f) k σ (all_size (Enter f ∷ k)) (callee_size code f) (omega arith)
   act_left (Leave d) k vs σ =

@@ -4,13 +4,13 @@ use mathlib.Core.List.{reverse_aux}
 use Rattle.xs_api.specs.declared.api.Abrupt.{Abrupt}
 use Rattle.xs_api.specs.declared.api.Operand.{Operand}
 use Rattle.xs_perlapi.specs.declared.row.Row.TheVariants.{StSet}
-use Rattle.xs_ctree.specs.TypedTree.{Expr, Literal, Variable, ItemCount, Passed, Read, Not, Unary, Cast, Binary, Assign, Api, Usage, ToVariable, ToItem, Exprs, NoExprs, MoreExprs, Stmt, Block, Effect, Declare, If, Quit, Register, Stmts, NoStmts, MoreStmts, expr_count, Code}
+use Rattle.xs_ctree.specs.TypedTree.{Expr, Passed, Read, Not, Unary, Cast, Binary, And, Or, Choice, Assign, Api, ToVariable, ToItem, Exprs, NoExprs, MoreExprs, Stmt, Block, Effect, If, Quit, Register, Stmts, NoStmts, MoreStmts, expr_count, Code}
 use Rattle.xs_machine.specs.Dispatch.{Prims}
-use Rattle.xs_machine.specs.MachineState.{State, Out, Done, Stop, ◌>>=◌, lift, assigned, assign_as, alone, operate, convert, truth_of}
+use Rattle.xs_machine.specs.MachineState.{State, Out, Done, Stop, ◌>>=◌, lift, assigned, assign_as, alone, operate, convert, truth_number, truth_of}
 use Rattle.xs_machine.specs.declared.machine.Alone.{Alone}
 use Rattle.xs_machine.specs.declared.machine.Alone.TheVariants as alone_of
 use Rattle.xs_machine.specs.Cmean.{choose, dropped, eval, evals, exec, exec_all}
-use Rattle.xs_machine.specs.Machine.{Work, DoExpr, DoExprs, DoStmt, DoStmts, SetVar, OnTop, Operate, ToType, DoRow, Branch, DropTop, Mach, passed, popped, run_on, unwind, land, branch_on, step, steps}
+use Rattle.xs_machine.specs.Machine.{Work, DoExpr, DoExprs, DoStmt, DoStmts, SetVar, OnTop, Operate, ToType, DoRow, Branch, AndThen, OrThen, Pick, DropTop, Mach, passed, popped, run_on, unwind, land, branch_on, step, steps}
 use Rattle.xs_machine.specs.Laws.{ExprFollows, MachineFollows}
 use Rattle.xs_machine.proofs.Tops.{popped_all}
 
@@ -68,12 +68,13 @@ module _ {S : Type 0} (P : Prims S) (code : Code) where
   cons_operands m k vs v (Done l σ) f = f
   cons_operands m k vs v (Stop a σ) f = f
 
-  choose_follows : (b : Option Bool) (x y : Stmt) (k : List Work) (vs : List Operand) (σ : State S) (ox oy : Out S (Unit {0}))
-      → Comes (run_on (DoStmt x ∷ k) vs σ) (land P passed k vs ox) → Comes (run_on (DoStmt y ∷ k) vs σ) (land P passed k vs oy)
-      → Comes (branch_on P b x y k vs σ) (land P passed k vs (choose b σ ox oy))
-  choose_follows None x y k vs σ ox oy f g = comes_at _ _ refl
-  choose_follows (Some true) x y k vs σ ox oy f g = f
-  choose_follows (Some false) x y k vs σ ox oy f g = g
+  -- one of two runs, by a condition
+  choose_follows : {A : Type 0} (put : A → List Operand → List Operand) (b : Option Bool) (held failed : Mach S) (k : List Work) (vs : List Operand)
+      (σ : State S) (x y : Out S A) → Comes held (land P put k vs x) → Comes failed (land P put k vs y)
+      → Comes (branch_on P b held failed k σ) (land P put k vs (choose b σ x y))
+  choose_follows put None held failed k vs σ x y f g = comes_at _ _ refl
+  choose_follows put (Some true) held failed k vs σ x y f g = f
+  choose_follows put (Some false) held failed k vs σ x y f g = g
 
   -- an operation on the value of an expression
   one_follows : (e : Expr) (op : Alone) (k : List Work) (vs : List Operand) (σ : State S)
@@ -99,6 +100,29 @@ module _ {S : Type 0} (P : Prims S) (code : Code) where
         (λ v σ1. then_on ◌∷◌ ◌∷◌ _ (Operate op ∷ k) k (v ∷ vs) vs (eval P b σ1) (λ u σ2. operate op v u σ2)
         (expr_follows b (Operate op ∷ k) (v ∷ vs) σ1) (λ x σ2. refl)
         (λ u σ2. comes_on _ _ (comes_at _ _ refl))))
+    expr_follows (And a b) k vs σ =
+        comes_on _ _ (then_on ◌∷◌ ◌∷◌ _ (AndThen b ∷ k) k vs vs (eval P a σ)
+        (λ v σ1. choose (truth_of v) σ1 (eval P b σ1 >>= λ u σ2. alone alone_of.Truth u σ2) (Done (truth_number false) σ1))
+        (expr_follows a (AndThen b ∷ k) vs σ) (λ x σ1. refl)
+        (λ v σ1. comes_on _ _ (choose_follows ◌∷◌ (truth_of v) (run_on (DoExpr b ∷ OnTop alone_of.Truth ∷ k) vs σ1) (run_on k (truth_number false ∷ vs) σ1)
+        k vs σ1 (eval P b σ1 >>= λ u σ2. alone alone_of.Truth u σ2) (Done (truth_number false) σ1)
+        (one_follows b alone_of.Truth k vs σ1 (expr_follows b (OnTop alone_of.Truth ∷ k) vs σ1)) (comes_at _ _ refl))))
+    expr_follows (Or a b) k vs σ =
+        comes_on _ _ (then_on ◌∷◌ ◌∷◌ _ (OrThen b ∷ k) k vs vs (eval P a σ)
+        (λ v σ1. choose (truth_of v) σ1 (Done (truth_number true) σ1) (eval P b σ1 >>= λ u σ2. alone alone_of.Truth u σ2))
+        (expr_follows a (OrThen b ∷ k) vs σ) (λ x σ1. refl)
+        (λ v σ1. comes_on _ _ (choose_follows ◌∷◌ (truth_of v) (run_on k (truth_number true ∷ vs) σ1) (run_on (DoExpr b ∷ OnTop alone_of.Truth ∷ k) vs σ1)
+        k vs σ1 (Done (truth_number true) σ1) (eval P b σ1 >>= λ u σ2. alone alone_of.Truth u σ2) (comes_at _ _ refl)
+        (one_follows b alone_of.Truth k vs σ1 (expr_follows b (OnTop alone_of.Truth ∷ k) vs σ1)))))
+    expr_follows (Choice at t e a b) k vs σ =
+        comes_on _ _ (then_on ◌∷◌ ◌∷◌ _ (ToType t ∷ k) k vs vs (eval P e σ >>= λ v σ1. choose (truth_of v) σ1 (eval P a σ1) (eval P b σ1))
+        (λ u σ2. convert t u σ2)
+        (then_on ◌∷◌ ◌∷◌ _ (Pick a b ∷ ToType t ∷ k) (ToType t ∷ k) vs vs (eval P e σ) (λ v σ1. choose (truth_of v) σ1 (eval P a σ1) (eval P b σ1))
+        (expr_follows e (Pick a b ∷ ToType t ∷ k) vs σ) (λ x σ1. refl)
+        (λ v σ1. comes_on _ _ (choose_follows ◌∷◌ (truth_of v) (run_on (DoExpr a ∷ ToType t ∷ k) vs σ1) (run_on (DoExpr b ∷ ToType t ∷ k) vs σ1)
+        (ToType t ∷ k) vs σ1 (eval P a σ1) (eval P b σ1) (expr_follows a (ToType t ∷ k) vs σ1) (expr_follows b (ToType t ∷ k) vs σ1))))
+        (λ x σ1. refl)
+        (λ u σ2. comes_on _ _ (comes_at _ _ refl)))
     expr_follows (Assign at (ToVariable x t) e) k vs σ =
         comes_on _ _ (then_on ◌∷◌ ◌∷◌ _ (SetVar x t ∷ k) k vs vs (eval P e σ) (λ v σ1. assign_as (assigned t v) x σ1)
         (expr_follows e (SetVar x t ∷ k) vs σ) (λ a σ1. refl)
@@ -140,7 +164,8 @@ module _ {S : Type 0} (P : Prims S) (code : Code) where
     stmt_follows (If at e a b) k vs σ =
         comes_on _ _ (then_on ◌∷◌ passed _ (Branch a b ∷ k) k vs vs (eval P e σ) (λ v σ1. choose (truth_of v) σ1 (exec P a σ1) (exec P b σ1))
         (expr_follows e (Branch a b ∷ k) vs σ) (λ x σ1. refl)
-        (λ v σ1. comes_on _ _ (choose_follows (truth_of v) a b k vs σ1 _ _ (stmt_follows a k vs σ1) (stmt_follows b k vs σ1))))
+        (λ v σ1. comes_on _ _ (choose_follows passed (truth_of v) (run_on (DoStmt a ∷ k) vs σ1) (run_on (DoStmt b ∷ k) vs σ1) k vs σ1
+        (exec P a σ1) (exec P b σ1) (stmt_follows a k vs σ1) (stmt_follows b k vs σ1))))
     stmt_follows (Quit at e) k vs σ = comes_on _ _ (dropped_follows e k vs σ)
     stmt_follows (Register name f false) k vs σ = comes_on _ _ (comes_at _ _ refl)
     stmt_follows s k vs σ = comes_on _ _ (comes_at _ _ refl)

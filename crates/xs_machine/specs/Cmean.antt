@@ -5,9 +5,9 @@ use Rattle.xs_perlapi.specs.declared.row.Row.TheVariants.{StSet}
 use Rattle.xs_api.specs.declared.api.Abrupt.TheVariants.{Traps}
 use Rattle.xs_api.specs.declared.api.Operand.{Operand}
 use Rattle.xs_api.specs.declared.api.Operand.TheVariants.{Unset, Num}
-use Rattle.xs_ctree.specs.TypedTree.{Expr, Literal, Variable, ItemCount, Passed, Read, Not, Unary, Cast, Binary, Assign, Api, Usage, ToVariable, ToItem, Exprs, NoExprs, MoreExprs, Stmt, Block, Effect, Declare, If, Quit, Register, Stmts, NoStmts, MoreStmts}
+use Rattle.xs_ctree.specs.TypedTree.{Expr, Literal, Variable, ItemCount, Passed, Read, Not, Unary, Cast, Binary, And, Or, Choice, Assign, Api, Usage, ToVariable, ToItem, Exprs, NoExprs, MoreExprs, Stmt, Block, Effect, Declare, If, Quit, Register, Stmts, NoStmts, MoreStmts}
 use Rattle.xs_machine.specs.Dispatch.{Prims}
-use Rattle.xs_machine.specs.MachineState.{State, Out, Done, Stop, ◌>>=◌, lift, read_var, write_var, assigned, assign_as, item_count, alone, operate, convert, truth_of, unbuilt}
+use Rattle.xs_machine.specs.MachineState.{State, Out, Done, Stop, ◌>>=◌, lift, read_var, write_var, assigned, assign_as, item_count, alone, operate, convert, truth_number, truth_of, unbuilt}
 use Rattle.xs_machine.specs.declared.machine.Alone.TheVariants as alone_of
 
 -- one of two runs, by a condition
@@ -22,7 +22,9 @@ dropped o = o >>= λ v σ. Done tt σ
 
 module _ {S : Type 0} (P : Prims S) where
   abbrev mutual
-    -- the value of an expression; an assignment evaluates its right side first
+    -- The value of an expression. An assignment evaluates its right side first. The second operand
+    -- of `&&` and of `||` is evaluated only where the first asks for it, and one of the two behind
+    -- `?`; that one's value is converted to the type of both (C11 6.5.13p4, 6.5.14p4, 6.5.15p4).
     pub eval : Expr → State S → Out S Operand
     eval (Literal n) σ = Done (Num n) σ
     eval (Variable x) σ = read_var x σ
@@ -33,6 +35,15 @@ module _ {S : Type 0} (P : Prims S) where
     eval (Unary op e) σ = eval e σ >>= λ v σ1. alone (alone_of.Sign op) v σ1
     eval (Cast t e) σ = eval e σ >>= λ v σ1. convert t v σ1
     eval (Binary op a b) σ = eval a σ >>= λ v σ1. eval b σ1 >>= λ u σ2. operate op v u σ2
+    eval (And a b) σ =
+        eval a σ >>= λ v σ1. choose (truth_of v) σ1
+        (eval b σ1 >>= λ u σ2. alone alone_of.Truth u σ2) (Done (truth_number false) σ1)
+    eval (Or a b) σ =
+        eval a σ >>= λ v σ1. choose (truth_of v) σ1 (Done (truth_number true) σ1)
+        (eval b σ1 >>= λ u σ2. alone alone_of.Truth u σ2)
+    eval (Choice at t e a b) σ =
+        (eval e σ >>= λ v σ1. choose (truth_of v) σ1 (eval a σ1) (eval b σ1))
+        >>= λ u σ2. convert t u σ2
     eval (Assign at (ToVariable x t) e) σ = eval e σ >>= λ v σ1. assign_as (assigned t v) x σ1
     eval (Assign at (ToItem i) e) σ =
         eval e σ >>= λ v σ1. eval i σ1

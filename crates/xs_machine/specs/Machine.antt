@@ -6,7 +6,7 @@ use Rattle.xs_api.specs.declared.api.Abrupt.{Abrupt}
 use Rattle.xs_api.specs.declared.api.Abrupt.TheVariants.{Returns, Croaks, Traps, Spent}
 use Rattle.xs_api.specs.declared.api.Frame.{Frame}
 use Rattle.xs_api.specs.declared.api.Operand.{Operand}
-use Rattle.xs_api.specs.declared.api.Operand.TheVariants.{Unset, Num, Void}
+use Rattle.xs_api.specs.declared.api.Operand.TheVariants.{Unset, Num}
 use Rattle.xs_perlapi.specs.declared.row.Row.{Row}
 use Rattle.xs_perlapi.specs.declared.row.Row.TheVariants.{StSet, XsEnd}
 use Rattle.xs_ctree.specs.declared.value_type.ValueType.{ValueType}
@@ -14,10 +14,10 @@ use Rattle.xs_machine.specs.declared.machine.Outcome.{Outcome}
 use Rattle.xs_machine.specs.declared.machine.Outcome.TheVariants as outcome
 use Rattle.xs_api.specs.declared.stacks.Depths.{Depths}
 use Rattle.xs_ctree.specs.Functions.{function_at, boot_at, name_of}
-use Rattle.xs_ctree.specs.TypedTree.{Expr, Literal, Variable, ItemCount, Passed, Read, Not, Unary, Cast, Binary, Assign, Api, Usage, Target, ToVariable, ToItem, Exprs, NoExprs, MoreExprs, Stmt, Block, Effect, Declare, If, Quit, Register, Stmts, NoStmts, MoreStmts, expr_count, Function, Code}
+use Rattle.xs_ctree.specs.TypedTree.{Expr, Literal, Variable, ItemCount, Passed, Read, Not, Unary, Cast, Binary, And, Or, Choice, Assign, Api, Usage, Target, ToVariable, ToItem, Exprs, NoExprs, MoreExprs, Stmt, Block, Effect, Declare, If, Quit, Register, Stmts, NoStmts, MoreStmts, expr_count, Function, Code}
 use Rattle.xs_api.specs.World.{World, Swept, Clean, Dirty, depths_of, new_cells, registered, sweep}
 use Rattle.xs_machine.specs.Dispatch.{Prims}
-use Rattle.xs_machine.specs.MachineState.{State, Out, Done, Stop, tick, lift, with_store, read_var, write_var, assigned, assign_as, item_count, alone, operate, convert, truth_of, unbuilt}
+use Rattle.xs_machine.specs.MachineState.{State, Out, Done, Stop, tick, lift, with_store, read_var, write_var, assigned, assign_as, item_count, alone, operate, convert, truth_number, truth_of, unbuilt}
 use Rattle.xs_machine.specs.declared.machine.Alone.{Alone}
 use Rattle.xs_machine.specs.declared.machine.Alone.TheVariants as alone_of
 use Rattle.xs_api.specs.Limits.{most_items}
@@ -25,9 +25,10 @@ use Rattle.xs_machine.specs.Dispatch.{counted_rows}
 use Rattle.xs_machine.specs.Cmean.{dropped, exec}
 
 -- A piece of pending work: an expression; operands; a statement; statements; what is done with the
--- topmost operands; one of two statements; the entry of a function by its number, None where no
--- function has the name; and the end of an XS function, with the heights of the stacks at its
--- entry.
+-- topmost operands; what goes on by a condition, which is one of two statements, the second operand
+-- of `&&` or of `||`, or one of the two expressions of `?:`; the entry of a function by its number,
+-- None where no function has the name; and the end of an XS function, with the heights of the
+-- stacks at its entry.
 pub data Work : Type 0 where
   DoExpr : Expr → Work
   DoExprs : Exprs → Work
@@ -39,6 +40,9 @@ pub data Work : Type 0 where
   ToType : ValueType → Work
   DoRow : Row → ℕ → Work
   Branch : Stmt → Stmt → Work
+  AndThen : Expr → Work
+  OrThen : Expr → Work
+  Pick : Expr → Expr → Work
   DropTop : Work
   Enter : Option ℕ → Work
   Leave : Depths → Work
@@ -117,6 +121,9 @@ module _ {S : Type 0} (P : Prims S) where
   unwind a (ToType t ∷ k) σ = unwind a k σ
   unwind a (DoRow r n ∷ k) σ = unwind a k σ
   unwind a (Branch s t ∷ k) σ = unwind a k σ
+  unwind a (AndThen e ∷ k) σ = unwind a k σ
+  unwind a (OrThen e ∷ k) σ = unwind a k σ
+  unwind a (Pick x y ∷ k) σ = unwind a k σ
   unwind a (DropTop ∷ k) σ = unwind a k σ
   unwind a (Enter f ∷ k) σ = unwind a k σ
 
@@ -131,10 +138,11 @@ module _ {S : Type 0} (P : Prims S) where
   fall_off d (Done v σ) = halt (outcome.Returned []) σ
   fall_off d (Stop a σ) = at_leave a d σ
 
-  abbrev pub branch_on : Option Bool → Stmt → Stmt → List Work → List Operand → State S → Mach S
-  branch_on None a b k vs σ = unwind (Traps trap.Kind) k σ
-  branch_on (Some true) a b k vs σ = run_on (DoStmt a ∷ k) vs σ
-  branch_on (Some false) a b k vs σ = run_on (DoStmt b ∷ k) vs σ
+  -- where a run goes on by a condition
+  abbrev pub branch_on : Option Bool → Mach S → Mach S → List Work → State S → Mach S
+  branch_on None held failed k σ = unwind (Traps trap.Kind) k σ
+  branch_on (Some true) held failed k σ = held
+  branch_on (Some false) held failed k σ = failed
 
   -- the entry of a function, which uses a turn; a name that no function has uses none
   abbrev pub enter : Option Function → List Work → State S → Mach S
@@ -160,6 +168,9 @@ module _ {S : Type 0} (P : Prims S) where
   act_expr (Unary op e) k vs σ = run_on (DoExpr e ∷ OnTop (alone_of.Sign op) ∷ k) vs σ
   act_expr (Cast t e) k vs σ = run_on (DoExpr e ∷ ToType t ∷ k) vs σ
   act_expr (Binary op a b) k vs σ = run_on (DoExpr a ∷ DoExpr b ∷ Operate op ∷ k) vs σ
+  act_expr (And a b) k vs σ = run_on (DoExpr a ∷ AndThen b ∷ k) vs σ
+  act_expr (Or a b) k vs σ = run_on (DoExpr a ∷ OrThen b ∷ k) vs σ
+  act_expr (Choice at t e a b) k vs σ = run_on (DoExpr e ∷ Pick a b ∷ ToType t ∷ k) vs σ
   act_expr (Assign at to e) k vs σ = act_assign to e k vs σ
   act_expr (Api at r es) k vs σ = run_on (DoExprs es ∷ DoRow r (expr_count es) ∷ k) vs σ
   act_expr (Usage at text) k vs σ =
@@ -194,7 +205,19 @@ module _ {S : Type 0} (P : Prims S) where
     act (ToType t) k vs σ = on_top vs σ (λ v rest. land ◌∷◌ k rest (convert t v σ))
     act (DoRow r n) k vs σ =
         land ◌∷◌ k (popped n [] vs).1 (lift (P.row r (popped n [] vs).0 σ.frame σ.store) σ)
-    act (Branch a b) k vs σ = on_top vs σ (λ v rest. branch_on (truth_of v) a b k rest σ)
+    act (Branch a b) k vs σ =
+        on_top vs σ (λ v rest. branch_on (truth_of v) (run_on (DoStmt a ∷ k) rest σ)
+        (run_on (DoStmt b ∷ k) rest σ) k σ)
+    act (AndThen e) k vs σ =
+        on_top vs σ (λ v rest. branch_on (truth_of v)
+        (run_on (DoExpr e ∷ OnTop alone_of.Truth ∷ k) rest σ)
+        (run_on k (truth_number false ∷ rest) σ) k σ)
+    act (OrThen e) k vs σ =
+        on_top vs σ (λ v rest. branch_on (truth_of v) (run_on k (truth_number true ∷ rest) σ)
+        (run_on (DoExpr e ∷ OnTop alone_of.Truth ∷ k) rest σ) k σ)
+    act (Pick a b) k vs σ =
+        on_top vs σ (λ v rest. branch_on (truth_of v) (run_on (DoExpr a ∷ k) rest σ)
+        (run_on (DoExpr b ∷ k) rest σ) k σ)
     act DropTop k vs σ = on_top vs σ (λ v rest. run_on k rest σ)
     act (Enter f) k vs σ = enter (function_at code f) k σ
     act (Leave d) k vs σ = fall_off d (lift (P.row XsEnd [] σ.frame σ.store) σ)
@@ -235,6 +258,9 @@ abbrev mutual
   expr_size (Unary op e) = expr_size e + 2
   expr_size (Cast t e) = expr_size e + 2
   expr_size (Binary op a b) = expr_size a + expr_size b + 2
+  expr_size (And a b) = expr_size a + expr_size b + 3
+  expr_size (Or a b) = expr_size a + expr_size b + 3
+  expr_size (Choice at t e a b) = expr_size e + (expr_size a + expr_size b) + 3
   expr_size (Assign at to e) = target_size to + expr_size e + 2
   expr_size (Api at r es) = exprs_size es + 2
   expr_size (Usage at text) = 1
@@ -273,6 +299,9 @@ work_size (Operate op) = 1
 work_size (ToType t) = 1
 work_size (DoRow r n) = 1
 work_size (Branch a b) = stmt_size a + stmt_size b + 1
+work_size (AndThen e) = expr_size e + 2
+work_size (OrThen e) = expr_size e + 2
+work_size (Pick a b) = expr_size a + expr_size b + 1
 work_size DropTop = 1
 work_size (Enter f) = 1
 work_size (Leave d) = 1

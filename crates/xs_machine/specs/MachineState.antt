@@ -1,6 +1,5 @@
 -- What a run works on, and how it goes on or stops.
 use Rattle.std.specs.Prelude.{ℕ, zero, suc, pos, negsuc, ℤ, Bool, true, false, List, Option, Some, None, slice_index_or, slice_set}
-use Rattle.xs_values.specs.declared.kind.Kind.{Kind}
 use Rattle.xs_values.specs.declared.kind.Kind.TheVariants.{I32}
 use Rattle.xs_values.specs.declared.operator.Op.{Op}
 use Rattle.xs_values.specs.declared.trap.Trap.{Trap}
@@ -51,7 +50,7 @@ truth_of (Scalar (Some n)) = Some true
 truth_of Unset = None
 truth_of Void = None
 
--- what is assigned to a variable of a type
+-- a value as one of a type; as void it is dropped (C11 6.3.2.2)
 abbrev pub assigned : ValueType → Operand → Option Operand
 assigned (type_of.Number k) (Num n) = Some (Num (wrapped k n.value))
 assigned type_of.Scalar (Scalar p) = Some (Scalar p)
@@ -61,13 +60,24 @@ assigned (type_of.Number k) Void = None
 assigned type_of.Scalar (Num n) = None
 assigned type_of.Scalar Unset = None
 assigned type_of.Scalar Void = None
+assigned type_of.Void v = Some Void
 assigned _ v = None
 
--- what `!` gives, 0 or 1 of kind I32 (C11 6.5.3.3p5)
+-- 1 or 0 of kind I32
+abbrev pub truth_number : Bool → Operand
+truth_number true = Num (wrapped I32 (pos 1))
+truth_number false = Num (wrapped I32 (pos 0))
+
+-- what `!` gives (C11 6.5.3.3p5)
 abbrev pub negated : Option Bool → Result Operand Trap
 negated None = Err trap.Kind
-negated (Some true) = Ok (Num (wrapped I32 (pos 0)))
-negated (Some false) = Ok (Num (wrapped I32 (pos 1)))
+negated (Some true) = Ok (truth_number false)
+negated (Some false) = Ok (truth_number true)
+
+-- what `&&` and `||` give of an operand (C11 6.5.13p3, 6.5.14p3)
+abbrev pub truth_value : Option Bool → Result Operand Trap
+truth_value None = Err trap.Kind
+truth_value (Some holds) = Ok (truth_number holds)
 
 -- what an operator gives before its operand
 abbrev pub signed : UnOp → Operand → Result Operand Trap
@@ -88,6 +98,7 @@ abbrev pub alone_value : Alone → Operand → Result Operand Trap
 alone_value alone_of.Read v = result_read v
 alone_value alone_of.Not v = negated (truth_of v)
 alone_value (alone_of.Sign op) v = signed op v
+alone_value alone_of.Truth v = truth_value (truth_of v)
 
 module _ {S : Type 0} where
   infixl 10 ◌>>=◌

@@ -9,7 +9,7 @@ use Rattle.xs_machine.specs.declared.machine.Task.{Task}
 use Rattle.xs_machine.specs.declared.machine.Task.TheVariants as task
 use Rattle.xs_ctree.specs.Arena.{ranged}
 use Rattle.xs_ctree.specs.Functions.{code_of, expr_in, stmt_in}
-use Rattle.xs_machine.specs.Machine.{Mach, Work, short_of, with_world, DoExpr, DoExprs, DoStmt, DoStmts, SetVar, OnTop, Operate, ToType, DoRow, Branch, DropTop, Enter, Leave}
+use Rattle.xs_machine.specs.Machine.{Mach, Work, short_of, with_world, DoExpr, DoExprs, DoStmt, DoStmts, SetVar, OnTop, Operate, ToType, DoRow, Branch, AndThen, OrThen, Pick, DropTop, Enter, Leave}
 use Rattle.xs_machine.specs.MachineState.{State, given_or, operate}
 use Rattle.xs_api.specs.declared.api.Stop.{Stop}
 use Rattle.xs_values.specs.declared.plain.Plain.{Plain}
@@ -29,6 +29,9 @@ task_of t (task.Operate op) = Operate op
 task_of t (task.ToType ty) = ToType ty
 task_of t (task.DoRow r n) = DoRow r n
 task_of t (task.Branch a b) = Branch (stmt_in t a) (stmt_in t b)
+task_of t (task.AndThen e) = AndThen (expr_in t e)
+task_of t (task.OrThen e) = OrThen (expr_in t e)
+task_of t (task.Pick a b) = Pick (expr_in t a) (expr_in t b)
 task_of t task.DropTop = DropTop
 task_of t (task.Enter f) = Enter f
 task_of t (task.Leave d) = Leave d

@@ -51,6 +51,8 @@ pub enum Alone {
     /// `!`
     Not,
     Sign(UnOp),
+    /// Whether an operand of `&&` or `||` holds, as a number.
+    Truth,
 }
 
 /// A piece of pending work. Expressions and statements are named by their nodes.
@@ -70,6 +72,12 @@ pub enum Task {
     /// A row of Perl's API, and the number of its operands.
     DoRow(Row, u32),
     Branch(u32, u32),
+    /// The second operand of `&&`, where the first holds.
+    AndThen(u32),
+    /// The second operand of `||`, where the first does not hold.
+    OrThen(u32),
+    /// One of the two expressions of `?:`.
+    Pick(u32, u32),
     DropTop,
     /// The entry of a function, None where no function has the name.
     Enter(Option<u32>),

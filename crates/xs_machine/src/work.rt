@@ -54,6 +54,12 @@ fn act_on_expr_node(m: &mut Machine, node: ExprNode) -> Result<(), Memory>
             m.then(Task::Operate(op))?;
             m.then_two(Task::DoExpr(a), Task::DoExpr(b))
         }
+        ExprNode::And(a, b) => m.then_two(Task::DoExpr(a), Task::AndThen(b)),
+        ExprNode::Or(a, b) => m.then_two(Task::DoExpr(a), Task::OrThen(b)),
+        ExprNode::Choice(_, t, e, a, b) => {
+            m.then(Task::ToType(t))?;
+            m.then_two(Task::DoExpr(e), Task::Pick(a, b))
+        }
         ExprNode::Assign(_, to, e) => begin_assignment(m, to, e),
         ExprNode::Api(_, row, operands) => begin_row(m, row, operands),
         ExprNode::Usage(_, text) => act_on_usage(m, text),
@@ -282,7 +288,7 @@ fn assign(m: &mut Machine, x: u32, v: Operand) -> Result<(), Memory>
     m.push(v)
 }
 
-// What is assigned to a variable of a type.
+// A value as one of a type.
 fn assigned(t: ValueType, v: Operand) -> Option<Operand>
     ensures { result ≡ state.assigned t v }
 {
@@ -295,6 +301,7 @@ fn assigned(t: ValueType, v: Operand) -> Option<Operand>
             Operand::Scalar(s) => Some(Operand::Scalar(s)),
             Operand::Unset | Operand::Num(_) | Operand::Void => None,
         },
+        ValueType::Void => Some(Operand::Void),
         _ => None,
     }
 }
@@ -352,6 +359,7 @@ fn alone_value(op: Alone, v: Operand) -> Result<Operand, Trap>
         Alone::Read => result_read(v),
         Alone::Not => negated(truth_of(v)),
         Alone::Sign(op) => signed(op, v),
+        Alone::Truth => truth_value(truth_of(v)),
     }
 }
 
@@ -373,8 +381,28 @@ fn negated(holds: Option<bool>) -> Result<Operand, Trap>
 {
     match holds {
         None => Err(Trap::Kind),
-        Some(true) => Ok(Operand::Num(wrap(Kind::I32, 0))),
-        Some(false) => Ok(Operand::Num(wrap(Kind::I32, 1))),
+        Some(true) => Ok(truth_number(false)),
+        Some(false) => Ok(truth_number(true)),
+    }
+}
+
+// What `&&` and `||` give of an operand.
+fn truth_value(holds: Option<bool>) -> Result<Operand, Trap>
+    ensures { result ≡ state.truth_value holds }
+{
+    match holds {
+        None => Err(Trap::Kind),
+        Some(holds) => Ok(truth_number(holds)),
+    }
+}
+
+fn truth_number(holds: bool) -> Operand
+    ensures { result ≡ state.truth_number holds }
+{
+    if holds {
+        Operand::Num(wrap(Kind::I32, 1))
+    } else {
+        Operand::Num(wrap(Kind::I32, 0))
     }
 }
 
@@ -423,6 +451,60 @@ fn act_on_branch(m: &mut Machine, a: u32, b: u32) -> Result<(), Memory>
         None => land(m, Err(Trap::Kind)),
         Some(true) => m.then(Task::DoStmt(a)),
         Some(false) => m.then(Task::DoStmt(b)),
+    }
+}
+
+// The second operand of `&&`, where the first, which is on top, holds.
+fn act_on_and(m: &mut Machine, e: u32) -> Result<(), Memory>
+    requires { m.old.stopped ≡ Outcome.Returned [] }
+    ensures acts { OnOk result (mach_of m.new
+        ≡ machine.act counted_rows (code_in m.old) (task_of m.old.typed (Task.AndThen e))
+        (pending_of m.old) (operands_of m.old) (state_of m.old)) }
+    ensures typed { m.new.typed ≡ m.old.typed }
+{
+    let Some(v) = pop_operand(m) else {
+        return Ok(());
+    };
+    match truth_of(v) {
+        None => land(m, Err(Trap::Kind)),
+        Some(true) => m.then_two(Task::DoExpr(e), Task::OnTop(Alone::Truth)),
+        Some(false) => m.push(truth_number(false)),
+    }
+}
+
+// The second operand of `||`, where the first, which is on top, does not hold.
+fn act_on_or(m: &mut Machine, e: u32) -> Result<(), Memory>
+    requires { m.old.stopped ≡ Outcome.Returned [] }
+    ensures acts { OnOk result (mach_of m.new
+        ≡ machine.act counted_rows (code_in m.old) (task_of m.old.typed (Task.OrThen e))
+        (pending_of m.old) (operands_of m.old) (state_of m.old)) }
+    ensures typed { m.new.typed ≡ m.old.typed }
+{
+    let Some(v) = pop_operand(m) else {
+        return Ok(());
+    };
+    match truth_of(v) {
+        None => land(m, Err(Trap::Kind)),
+        Some(true) => m.push(truth_number(true)),
+        Some(false) => m.then_two(Task::DoExpr(e), Task::OnTop(Alone::Truth)),
+    }
+}
+
+// One of the two expressions of `?:`, by the condition on top.
+fn act_on_pick(m: &mut Machine, a: u32, b: u32) -> Result<(), Memory>
+    requires { m.old.stopped ≡ Outcome.Returned [] }
+    ensures acts { OnOk result (mach_of m.new
+        ≡ machine.act counted_rows (code_in m.old) (task_of m.old.typed (Task.Pick a b))
+        (pending_of m.old) (operands_of m.old) (state_of m.old)) }
+    ensures typed { m.new.typed ≡ m.old.typed }
+{
+    let Some(v) = pop_operand(m) else {
+        return Ok(());
+    };
+    match truth_of(v) {
+        None => land(m, Err(Trap::Kind)),
+        Some(true) => m.then(Task::DoExpr(a)),
+        Some(false) => m.then(Task::DoExpr(b)),
     }
 }
 
@@ -601,6 +683,9 @@ pub(crate) fn act_on(m: &mut Machine, task: Task) -> Result<(), Memory>
         Task::ToType(t) => act_on_cast(m, t),
         Task::DoRow(row, n) => act_on_row(m, row, n),
         Task::Branch(a, b) => act_on_branch(m, a, b),
+        Task::AndThen(e) => act_on_and(m, e),
+        Task::OrThen(e) => act_on_or(m, e),
+        Task::Pick(a, b) => act_on_pick(m, a, b),
         Task::DropTop => {
             pop_operand(m);
             Ok(())

@@ -1,7 +1,7 @@
 //! Texts of C and their faults in the types stage.
 ghost use Rattle.std.specs.Prelude.{◌<◌, ◌-◌, ◌^◌, IfOk, length};
 
-use crate::type_tables::{BODIES, FILES, OPERATORS, Row};
+use crate::type_tables::{BODIES, FILES, OPERATORS, PLACES, Row};
 use std::alloc::Global;
 use std::process::Abort;
 use std::test::Fail;
@@ -90,6 +90,14 @@ fn bodies(rt: HostRuntime) -> Result<(), Fail> {
 #[test]
 fn operators(rt: HostRuntime) -> Result<(), Fail> {
     for row in &OPERATORS {
+        hold_row(&rt, rt.alloc(), FRONT, row, BACK)?;
+    }
+    Ok(())
+}
+
+#[test]
+fn places(rt: HostRuntime) -> Result<(), Fail> {
+    for row in &PLACES {
         hold_row(&rt, rt.alloc(), FRONT, row, BACK)?;
     }
     Ok(())

@@ -1,5 +1,5 @@
 use Rattle.std.proofs.Common.{◌≡◌, ◌∙◌, ◌+◌, ◌<◌, sym, ap, subst, length, map, drop, arith}
-use Rattle.xs_cexpr.specs.ExpressionTree.{Set, exprs_of}
+use Rattle.xs_cexpr.specs.ExpressionTree.{exprs_of}
 use Rattle.xs_cexpr.specs.ExpressionViews.{expr_tree, place_tree}
 use Rattle.xs_ccheck.specs.ExprTyping.{expr, exprs}
 use Rattle.xs_ccheck.specs.Resolving.{GivesExpr, HasTyped, HaveTyped, typed_in}
@@ -8,18 +8,26 @@ use Rattle.xs_ctypes.specs.Joining.{joined}
 use Rattle.xs_ccheck.proofs.ExprParts.{choice_resolves}
 use Rattle.xs_ccheck.proofs.ExprSizes.{item_smaller}
 use Rattle.xs_ccheck.proofs.Lists.{typed_last}
-use Rattle.xs_ccheck.proofs.Loops.{assignment, exprs_next, operation}
+use Rattle.xs_ccheck.proofs.Loops.{assignment, exprs_next, indexing, operation}
 use Rattle.xs_ccheck.proofs.exprs.+expr.Goals as goal
 
-pub assign-returns-in_ok-to-in-None : goal.assign-returns-in_ok-to-in-None
-assign-returns-in_ok-to-in-None t c =
+pub assign-returns : goal.assign-returns
+assign-returns t c =
     let vs = c.args.scope.now.variables in
     let place = place_tree c.args.place.now in
     let value = expr_tree c.args.value.now in
-    let given = c.in_ok-to-in-None in
-    subst (λ o. GivesExpr c.assigned.result c.args.typed.now c.assigned.new.typed (expr vs (Set c.args.line place o value))) (sym c.in-None.is)
-    (assignment vs c.args.line c.args.typed.now c.place_in-to.new.typed c.expr-x.new.typed c.assigned.new.typed c.assigned.result given.x c.expr-x.result
-    place value given.to c.place_in-to.result c.place_in-to.ensures c.expr-x.ensures (sym c.both.ensures ∙ given.was) c.assigned.ensures)
+    let given = c.in_ok-to in
+    assignment vs c.args.line c.args.typed.now c.place_in-to.new.typed c.expr-x.new.typed c.set_to.new.typed c.set_to.result given.x c.expr-x.result
+    c.args.op place value given.to c.place_in-to.result c.place_in-to.ensures c.expr-x.ensures (sym c.both.ensures ∙ given.was) c.set_to.ensures
+
+pub index-returns : goal.index-returns
+index-returns t c =
+    let vs = c.args.scope.now.variables in
+    let a = expr_tree c.args.a.now in
+    let at = expr_tree c.args.at.now in
+    let given = c.in_ok-x in
+    indexing vs c.args.line c.args.typed.now c.expr-x.new.typed c.expr-y.new.typed c.element.new.typed c.element.result given.y c.expr-y.result
+    a at given.x c.expr-x.result c.expr-x.ensures c.expr-y.ensures (sym c.both.ensures ∙ given.was) c.element.ensures
 
 pub binary-returns : goal.binary-returns
 binary-returns t c =

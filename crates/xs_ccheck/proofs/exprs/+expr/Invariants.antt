@@ -16,6 +16,12 @@ decreases-assign l = place_size (place_tree l.place.now) + expr_size (expr_tree 
 abbrev pub decreases-binary : goal.decreases-binary
 decreases-binary l = expr_size (expr_tree l.a.now) + expr_size (expr_tree l.b.now) + 1
 
+abbrev pub decreases-step : goal.decreases-step
+decreases-step l = place_size (place_tree l.place.now) + 1
+
+abbrev pub decreases-index : goal.decreases-index
+decreases-index l = expr_size (expr_tree l.a.now) + expr_size (expr_tree l.at.now) + 1
+
 abbrev pub decreases-choice : goal.decreases-choice
 decreases-choice l = expr_size (expr_tree l.test.now) + (expr_size (expr_tree l.a.now) + expr_size (expr_tree l.b.now)) + 1
 
